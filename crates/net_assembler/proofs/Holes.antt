@@ -1,11 +1,10 @@
 -- The holes before rising runs.
-use Rattle.std.proofs.Common.{◌≡◌, ℕ, zero, suc, ◌+◌, ◌<◌, ◌≤◌, ◌==◌, List, [], ◌∷◌, length, drop, Some, None, refl}
-use Rattle.std.proofs.Common.{ap, ◌∙◌, arith}
+use Rattle.std.proofs.Common.{◌≡◌, ℕ, zero, suc, ◌+◌, ◌<◌, ◌≤◌, ◌==◌, List, [], ◌∷◌, length, drop, Some, None, refl, ap}
+use Rattle.std.proofs.Common.{◌∙◌, arith, rules}
 use Rattle.std.specs.List.{slice_get}
 use Rattle.std.proofs.lemmas.Bool.{cond_both, cond-false, ne_eqb}
 use Rattle.std.proofs.lemmas.List.{length-drop}
 use Rattle.std.proofs.lemmas.Option.{slice_get_past}
-use Rattle.std.proofs.Common.{rules}
 use Rattle.net_assembler.specs.Positions.{holes_before}
 use Rattle.net_assembler.specs.RunLists.{start_at, end_at, IsRising, AreRuns}
 

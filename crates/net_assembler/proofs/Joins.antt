@@ -1,12 +1,11 @@
 -- Where a range joins a list of runs.
 use Rattle.std.proofs.Common.{◌≡◌, ℕ, zero, suc, ◌+◌, ◌-◌, ◌*◌, ◌<◌, ◌≤◌, ◌^◌, max, min, false, List, [], ◌∷◌, ◌++◌}
-use Rattle.std.proofs.Common.{length, take, drop, set, nat_lt, refl, sym, ap, subst, ◌∙◌, arith, ◌≢◌}
+use Rattle.std.proofs.Common.{length, take, drop, set, nat_lt, refl, sym, ap, subst, ◌∙◌, arith, ◌≢◌, rules}
 use Rattle.std.proofs.Math.Nat.{pow-suc}
 use Rattle.std.proofs.Math.Seq.{take-set-lt}
 use Rattle.std.proofs.lemmas.List.{take-set, drop-set, drop_all, length-append, length-take-le, length-drop}
 use Rattle.std.proofs.lemmas.List.{take_more_set, take-append-drop, take-take, get_or-take}
 use Rattle.std.proofs.lemmas.Bool.{cases_lt, eq-eqb, ne_eqb, lt-ltb, le-ltb, cond-true, cond-false}
-use Rattle.std.proofs.Common.{rules}
 use Rattle.net_assembler.specs.Positions.{nothing, runs, set_of_list}
 use Rattle.net_assembler.specs.RunLists.{start_at, end_at, IsRising, AreRuns, set_of_runs}
 use Rattle.net_assembler.proofs.Runs.{runs_with_range, in_runs, in_first, past_first, not_in_runs, front_of_runs}

@@ -1,13 +1,12 @@
 -- What a search finds in rising runs: the end, the next missing range, and how many positions of a range are present.
-use Rattle.std.proofs.Common.{◌≡◌, ℕ, zero, suc, ◌+◌, ◌-◌, ◌<◌, ◌≤◌, ◌^◌, max, min, false, List, [], ◌∷◌, length}
-use Rattle.std.proofs.Common.{drop, take, get_or, nat_lt, refl, sym, ap, subst, ◌∙◌, arith}
+use Rattle.std.proofs.Common.{◌≡◌, ℕ, zero, suc, ◌+◌, ◌-◌, ◌<◌, ◌≤◌, ◌^◌, max, min, false, List, [], ◌∷◌, length, drop}
+use Rattle.std.proofs.Common.{take, get_or, nat_lt, refl, sym, ap, subst, ◌∙◌, arith, rules}
 use Rattle.std.proofs.Math.Seq.{drop-cons}
 use Rattle.std.proofs.lemmas.List.{drop_all, get_or-take, length-take-le, nil_from_length}
 use Rattle.std.proofs.lemmas.Bool.{cases_lt, lt-ltb, le-ltb, false≢true}
 use Rattle.std.proofs.lemmas.Bool.Decides.{nat_tests}
 use Rattle.std.specs.Prelude.{Some, None}
 use Rattle.std.specs.Int.{from_bool}
-use Rattle.std.proofs.Common.{rules}
 use Rattle.net_assembler.specs.declared.assembler.head.AssemblerHead.{AssemblerHead}
 use Rattle.net_assembler.specs.Positions.{EndsHole, IsEnd, contains, first_missing, maximal_runs}
 use Rattle.net_assembler.specs.Positions.{present_count, runs_shifted_up}

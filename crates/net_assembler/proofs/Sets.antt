@@ -1,7 +1,7 @@
 -- What membership, runs and shifts of a set of positions come to, whatever holds the set.
 use Rattle.std.proofs.Common.{◌||◌, ◌≡◌, ℕ, zero, suc, ◌+◌, ◌-◌, ◌<◌, ◌≤◌, Bool, true, false, cond, not, ◌&&◌, ◌==◌}
-use Rattle.std.proofs.Common.{List, [], ◌∷◌, ◌++◌, map, filter, length, nat_le, nat_lt, refl, sym, ap, subst, ◌∙◌}
-use Rattle.std.proofs.Common.{◌⊎◌, inl, inr, arith, Decides, le-leb}
+use Rattle.std.proofs.Common.{List, [], ◌∷◌, ◌++◌, map, filter, length, nat_le, nat_lt, refl, sym, ap, subst, ◌∙◌, ◌⊎◌}
+use Rattle.std.proofs.Common.{inl, inr, arith, Decides, le-leb, rules}
 use Rattle.std.proofs.lemmas.Bool.{false≢true, eqb-true, eq-eqb, cases_lt, cases_eq, cases_Bool, lt-leb, and_parts}
 use Rattle.std.proofs.lemmas.Bool.{and_right, or_cases, or_left, or_right, cond_both, false_from_ne_true}
 use Rattle.std.proofs.lemmas.List.{length-map}
@@ -17,7 +17,6 @@ use Rattle.net_assembler.specs.Assembler.{MakesTooManyRuns, makes_too_many_runs}
 use Rattle.net_assembler.specs.Positions.{front, Positions, contains, positions, set_of_list, nothing, with_range}
 use Rattle.net_assembler.specs.Positions.{begins_run, run_starts, runs, maximal_runs, runs_shifted_up, shift_down}
 use Rattle.net_assembler.specs.Positions.{shift_up, bound_of, missing_within, first_missing, are_same}
-use Rattle.std.proofs.Common.{rules}
 
 -- membership in a list
 abbrev pub has : List ℕ → ℕ → Bool

@@ -1,7 +1,7 @@
 -- Runs that are counted from elsewhere, also by numbers that wrap, and a range that joins them.
 use Rattle.std.proofs.Common.{◌||◌, ◌≡◌, ℕ, zero, suc, ◌+◌, ◌-◌, ◌<◌, ◌≤◌, ◌^◌, max, min, true, false, ◌&&◌, List, []}
 use Rattle.std.proofs.Common.{◌∷◌, length, map, drop, set, get_or, nat_le, nat_lt, refl, sym, ap, subst, ◌∙◌, arith}
-use Rattle.std.proofs.Common.{◌%◌, ◌++◌, take}
+use Rattle.std.proofs.Common.{◌%◌, ◌++◌, take, rules}
 use Rattle.std.proofs.lemmas.List.{drop-map, length-map, get_or-map, map-id, length-drop, length-take-le, take-take}
 use Rattle.std.proofs.lemmas.List.{get_or-drop, get_or-take}
 use Rattle.std.proofs.lemmas.Bool.{cases_lt, cond_both, false≢true, or_cases}
@@ -15,7 +15,6 @@ use Rattle.net_assembler.proofs.Sets.{either}
 use Rattle.net_assembler.proofs.Joins.{apart_at, joined_at, length_apart, rising-drop}
 use Rattle.std.proofs.Math.Nat.{mod-eq_of_lt}
 use Rattle.std.proofs.lemmas.Nat.{mod-mul-add}
-use Rattle.std.proofs.Common.{rules}
 
 -- runs that are counted n higher
 pub length-up : (n : ℕ) (rs : List (ℕ × ℕ)) → length (runs_shifted_up n rs) ≡ length rs

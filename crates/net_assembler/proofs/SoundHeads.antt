@@ -1,6 +1,6 @@
 -- A head and runs that are those of an assembler: its runs as a list, and their set.
-use Rattle.std.proofs.Common.{◌≡◌, ℕ, ◌+◌, ◌-◌, ◌*◌, ◌<◌, ◌≤◌, ◌^◌, List, [], ◌∷◌, length, take, drop, set, get_or}
-use Rattle.std.proofs.Common.{max, min, refl, sym, ap, subst, ◌∙◌, arith, nat_lt}
+use Rattle.std.proofs.Common.{◌≡◌, ℕ, ◌+◌, ◌-◌, ◌*◌, ◌<◌, ◌≤◌, ◌^◌, List, [], ◌∷◌, length, take, drop, set, get_or, max}
+use Rattle.std.proofs.Common.{min, refl, sym, ap, subst, ◌∙◌, arith, nat_lt, rules}
 use Rattle.std.specs.List.{slice_get}
 use Rattle.std.proofs.lemmas.Option.{slice_get-get_or, slice_get_past}
 use Rattle.net_assembler.proofs.Holes.{all_holes, few_holes, hole_between, no_hole, rises_after}
@@ -30,7 +30,6 @@ use Rattle.std.proofs.Math.Seq.{take-set-lt}
 use Rattle.net_assembler.proofs.Joins.{no_runs, runs-nothing, set_of_no_runs, front_of_runs-none, at_run, apart}
 use Rattle.net_assembler.proofs.Joins.{front_of_runs-some, in_run_at, used_ends_rise, used_starts_rise}
 use Rattle.std.proofs.lemmas.Bool.Decides.{nat_tests}
-use Rattle.std.proofs.Common.{rules}
 use Rattle.net_assembler.proofs.Sets.{front-is, contains-with_range, are_same_decides, contains-nothing}
 use Rattle.net_assembler.proofs.Sets.{front-with_range, shift_down-with_range, either, too_many, shift_down-zero}
 use Rattle.net_assembler.proofs.Sets.{with_range-none}

@@ -10,8 +10,7 @@ use Rattle.std.specs.List.{list_any}
 use Rattle.std.specs.Iterator.{YieldsFirst}
 use Rattle.net_assembler.specs.declared.assembler.error.TooManyHolesError.{TooManyHolesError}
 use Rattle.net_assembler.specs.Positions.{Positions, contains, nothing, with_range, without_range, runs, front}
-use Rattle.net_assembler.specs.Positions.{shift_down, lies_in}
-use Rattle.net_assembler.specs.Positions.{maximal_runs, are_same, AreMaximalRuns}
+use Rattle.net_assembler.specs.Positions.{shift_down, lies_in, maximal_runs, are_same, AreMaximalRuns}
 use Rattle.net_assembler.specs.Assembler.{MakesTooManyRuns}
 
 -- the contract of `add`, of one call

@@ -8,8 +8,7 @@
 --     HasSoundRuns head rs      that they are those of an assembler
 --     IsCanonical head      that a head without runs is 0 in both numbers
 --     zero_head      the head of two zeros
-use Rattle.std.specs.Prelude.{◌≡◌, ℕ, ◌+◌, ◌-◌, ◌<◌, ◌≤◌, ◌^◌, ◌%◌, List, [], ◌∷◌, length, take, map, flat_map}
-use Rattle.std.specs.Prelude.{get_or}
+use Rattle.std.specs.Prelude.{◌≡◌, ℕ, ◌+◌, ◌-◌, ◌<◌, ◌≤◌, ◌^◌, ◌%◌, List, [], ◌∷◌, length, take, map, flat_map, get_or}
 use Rattle.std.specs.List.{range_with_len}
 use Rattle.net_assembler.specs.Positions.{Positions, set_of_list, runs_shifted_up}
 use Rattle.net_ring.specs.Width.{IsUsize}

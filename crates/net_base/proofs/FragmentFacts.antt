@@ -1,9 +1,9 @@
 -- Facts of a buffer of fragments: what is lent and written, positions of a set and its runs, many fragments, and which
 -- slot of a table a loop finds.
-use Rattle.std.proofs.Common.{◌≡◌, ℕ, ◌-◌, ◌∙◌, List, length, take, drop, ap, arith, take_all, ◌↔◌, suc, ◌+◌, ◌<◌}
-use Rattle.std.proofs.Common.{◌≤◌, true, [], ◌∷◌, ◌&&◌, max, IsTrue, nat_lt, nat_le, inl, inr, get_or, subst}
-use Rattle.std.proofs.Common.{Some, None, ⊎_elim, ◌≢◌, Bool, false, not, min, nat_eq, sym, length-take, length-drop}
-use Rattle.std.proofs.Common.{refl, if◌then◌else◌, IsFalse, ap₂, ◌||◌, Err, cond, ℤ, ◌<ℤ◌, ◌≤ℤ◌}
+use Rattle.std.proofs.Common.{◌≡◌, ℕ, ◌-◌, ◌∙◌, List, length, take, drop, ap, arith, take_all, ◌↔◌, suc, ◌+◌, ◌<◌, ◌≤◌}
+use Rattle.std.proofs.Common.{true, [], ◌∷◌, ◌&&◌, max, IsTrue, nat_lt, nat_le, inl, inr, get_or, subst, Some, None}
+use Rattle.std.proofs.Common.{⊎_elim, ◌≢◌, Bool, false, not, min, nat_eq, sym, length-take, length-drop, refl}
+use Rattle.std.proofs.Common.{if◌then◌else◌, IsFalse, ap₂, ◌||◌, Err, cond, ℤ, ◌<ℤ◌, ◌≤ℤ◌, rules}
 use Rattle.net_ring.specs.Overwrite.{overwrite, OverwritesAt}
 use Rattle.net_ring.proofs.RingFacts.{overwrite_whole}
 use Rattle.std.specs.List.{count_by, slice_get, position}
@@ -25,7 +25,6 @@ use Rattle.net_assembler.specs.AssemblerLaws.{MembersOfNothing, MembersWithRange
 use Rattle.std.specs.Ordering.{is_lt, int_cmp}
 use Rattle.std.proofs.lemmas.Int.{ints}
 use Rattle.std.proofs.lemmas.List.Sums.{position_or_len_is}
-use Rattle.std.proofs.Common.{rules}
 
 -- ---- a storage of bytes that is lent whole, and written over whole
 -- a whole storage of n elements, lent as a part

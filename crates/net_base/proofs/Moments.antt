@@ -1,7 +1,6 @@
 -- The texts of moments and lengths of time.
-use Rattle.std.proofs.Common.{◌≡◌, suc, ℤ, refl, sym, ◌∙◌, arith, List, [], ◌∷◌, ℕ}
-use Rattle.std.proofs.Common.{zero, ◌-◌, ◌^◌, true, false, length, replicate, pos, negsuc, ap, append-nil}
-use Rattle.std.proofs.Common.{append_assoc, ◌++◌, subst}
+use Rattle.std.proofs.Common.{◌≡◌, suc, ℤ, refl, sym, ◌∙◌, arith, List, [], ◌∷◌, ℕ, zero, ◌-◌, ◌^◌, true, false, length}
+use Rattle.std.proofs.Common.{replicate, pos, negsuc, ap, append-nil, append_assoc, ◌++◌, subst}
 use Rattle.net_base.specs.Time.{three_decimals}
 use Rattle.std.proofs.Math.Nat.{sub-zero, sub_self}
 use Rattle.std.proofs.lemmas.Bool.{le-ltb}

@@ -1,14 +1,13 @@
 -- Sums of words, and what folding keeps of them: the number modulo 65535, and whether it is 0.
 use Rattle.std.proofs.Common.{◌≡◌, ℕ, zero, suc, ◌+◌, ◌-◌, ◌*◌, ◌/◌, ◌%◌, ◌^◌, ◌<◌, ◌≤◌, List, [], ◌∷◌, ◌++◌, length}
-use Rattle.std.proofs.Common.{take, drop, refl, sym, ap, ◌∙◌, subst, arith, length-append, append-nil, All}
-use Rattle.std.proofs.Common.{true, false, Bool, nat_eq}
+use Rattle.std.proofs.Common.{take, drop, refl, sym, ap, ◌∙◌, subst, arith, length-append, append-nil, All, true, false}
+use Rattle.std.proofs.Common.{Bool, nat_eq, rules}
 use Rattle.std.specs.Prelude.{◌⊎◌, Option, Some, None, if◌then◌else◌}
 use Rattle.std.specs.List.{slice_get}
 use Rattle.std.specs.Int.{w16, w32, w64, from_le_bytes}
 use Rattle.std.proofs.lemmas.List.{take-append-drop}
 use Rattle.std.proofs.lemmas.Bool.{cases_lt, cond_both, eqb-true, eqb-false}
 use Rattle.std.proofs.lemmas.Bool.Decides.{nat_tests}
-use Rattle.std.proofs.Common.{rules}
 use Rattle.net_base.specs.InternetChecksum.{word_sum, folded, internet_checksum, updated, word_bytes, IsEven}
 use Rattle.net_base.specs.InternetChecksum.{add_words, carried_sum, Sums, sum_with}
 use Rattle.net_base.specs.declared.checksum.internet_sum.PartsSum.{PartsSum}

@@ -4,14 +4,13 @@
 --     IsSoundSending c e      what is true of an end over a storage of c bytes
 --     AreBlocks bs, ranges_of bs      an acknowledgement has room for as many; them as ranges
 --     taken_fields it, ended_fields it, outgoing_fields it      what is returned in C, of the results of the calls
-use Rattle.std.specs.Prelude.{ℕ, ◌≤◌, Option, Some, None, List, length, replicate, false}
+use Rattle.std.specs.Prelude.{ℕ, ◌≤◌, Option, Some, None, List, length, replicate, false, map}
 use Rattle.net_receiver.specs.FiniteSender.{finite_sender_of, IsSoundFiniteSender}
 use Rattle.net_receiver.specs.NewHeads.{finite_sender_head, scoreboard_head}
 use Rattle.net_receiver.specs.Scoreboards.{IsSoundBoard}
 use Rattle.net_tcp.specs.LossRecovery.{no_loss}
 use Rattle.net_tcp.specs.Retransmission.{new_fields}
 use Rattle.net_tcp.specs.Windows.{no_window}
-use Rattle.std.specs.Prelude.{map}
 use Rattle.std.specs.declared.ops.Range.{Range}
 use Rattle.net_ends.specs.Ends.{End}
 use Rattle.net_ends.specs.Receiving.{range_of}

@@ -13,9 +13,8 @@
 // the calls of the receiver, and the list of blocks, are here once more, with the definitions of `net_ends` as
 // contracts. The rules, which are of numbers, are those of its `ReceivingHead`.
 
-ghost use Rattle.std.specs.Prelude.{◌≡◌, ◌↔◌, ◌-◌, ◌<◌, ◌≤◌, ◌++◌, ◌&&◌, ◌||◌, ℕ, List, length, min};
-ghost use Rattle.std.specs.Prelude.{take, drop, nat_lt, nat_le, not, IsTrue, IsFalse, MatchResult, OnErr};
-ghost use Rattle.std.specs.Prelude.{if◌then◌else◌};
+ghost use Rattle.std.specs.Prelude.{◌≡◌, ◌↔◌, ◌-◌, ◌<◌, ◌≤◌, ◌++◌, ◌&&◌, ◌||◌, ℕ, List, length, min, take, drop};
+ghost use Rattle.std.specs.Prelude.{nat_lt, nat_le, not, IsTrue, IsFalse, MatchResult, OnErr, if◌then◌else◌};
 ghost use Rattle.std.specs.Option.{option_to_list};
 ghost use Rattle.net_assembler.specs.RunLists.{IsCanonical};
 ghost use Rattle.net_ring.specs.Ring.{queue};
@@ -25,10 +24,9 @@ ghost use Rattle.net_receiver.specs.NewestRuns.{with_starts};
 ghost use Rattle.net_receiver.specs.Finite.{no_end, acknowledged, is_complete, finite_result};
 ghost use Rattle.net_receiver.specs.FiniteHead.{finite_storage_after, next_of};
 ghost use Rattle.net_tcp.specs.Windows.{IsArrival};
-ghost use Rattle.net_ends.specs.Receiving.{new_receiving, opened, opening_field, free_end, is_worth, field_of};
-ghost use Rattle.net_ends.specs.Receiving.{listed, reported, arrival_result, after_event, Arrived};
-ghost use Rattle.net_ends.specs.Receiving.{Announced, Acknowledged, Took, WaitsAfter, is_empty};
-ghost use Rattle.net_ends.specs.Receiving.{after_arrival};
+ghost use Rattle.net_ends.specs.Receiving.{new_receiving, opened, opening_field, free_end, is_worth, field_of, listed};
+ghost use Rattle.net_ends.specs.Receiving.{reported, arrival_result, after_event, Arrived, Announced, Acknowledged};
+ghost use Rattle.net_ends.specs.Receiving.{Took, WaitsAfter, is_empty, after_arrival};
 ghost use Rattle.net_ffi.specs.ReceiverParts.{IsReadable};
 ghost use Rattle.net_ffi.specs.Refusals.{no_number};
 ghost use Rattle.net_ffi.specs.Results.{status_of_finite};

@@ -19,12 +19,12 @@
 // all of it but the bytes is one struct. Each flag and each number of the head has a meaning. So
 // `is_sound`, which each call asks, looks at the sender and at what was reported, and at nothing else.
 
-ghost use Rattle.std.specs.Prelude.{◌≡◌, ◌↔◌, ◌+◌, ◌-◌, ◌<◌, ◌≤◌, ◌^◌, ◌==◌, ◌++◌, ◌||◌, ℕ, List, length, min};
-ghost use Rattle.std.specs.Prelude.{take, drop, slice_get, IsTrue, IsFalse, is_some, is_none, unwrap_or};
-ghost use Rattle.std.specs.Prelude.{Option, Some, None};
+ghost use Rattle.std.specs.Prelude.{◌≡◌, ◌↔◌, ◌+◌, ◌-◌, ◌<◌, ◌≤◌, ◌^◌, ◌==◌, ◌++◌, ◌||◌, ℕ, List, length, min, take};
+ghost use Rattle.std.specs.Prelude.{drop, slice_get, IsTrue, IsFalse, is_some, is_none, unwrap_or, Option, Some, None};
 ghost use Rattle.std.specs.Prelude.{true, false};
 ghost use Rattle.net_receiver.specs.Finite.{no_end};
 ghost use Rattle.net_receiver.specs.FiniteSender.{IsSoundFiniteSender, finite_room};
+ghost use Rattle.net_receiver.specs.FiniteSender.{finite_sender_of, sender_after_command, Acknowledges, Marks};
 ghost use Rattle.net_tcp.specs.LossRecovery.{is_active, is_wrong, taken_back};
 ghost use Rattle.net_tcp.specs.Retransmission.{expires_at, has_expired};
 ghost use Rattle.net_tcp.specs.Windows.{acknowledgement_number};
@@ -32,14 +32,12 @@ ghost use Rattle.net_ends.specs.Ends.{new_end, after_event, Opened, Enabled, Ope
 ghost use Rattle.net_ends.specs.Ends.{first, Resumed};
 ghost use Rattle.net_ffi.specs.Refusals.{no_number};
 ghost use Rattle.net_ffi.specs.Retransmission.{given_or, bounds_of};
-ghost use Rattle.net_ffi.specs.SendingEnds.{sending_of, begun_at};
-ghost use Rattle.net_ffi.specs.SendingEnds.{IsSoundSending, AreBlocks};
-ghost use Rattle.net_ffi.specs.SendingEnds.{taken_fields, ended_fields, outgoing_fields, ranges_of};
+ghost use Rattle.net_ffi.specs.SendingEnds.{sending_of, begun_at, IsSoundSending, AreBlocks, taken_fields};
+ghost use Rattle.net_ffi.specs.SendingEnds.{ended_fields, outgoing_fields, ranges_of};
 ghost use Rattle.net_ends.specs.Receiving.{range_of};
 ghost use Rattle.net_tcp.specs.Sack.{is_permitted};
 ghost use Rattle.net_ends.specs.Calls.{Hears, Looks, Chooses};
 ghost use Rattle.net_ends.specs.Rules.{queued_of};
-ghost use Rattle.net_receiver.specs.FiniteSender.{finite_sender_of, sender_after_command, Acknowledges, Marks};
 
 use crate::receiver::RUNS;
 use crate::receiving_end::are_sixteen;

@@ -1,7 +1,7 @@
 -- The queue that a head, slots with headers and bytes represent, after a step on the head's numbers.
 use Rattle.std.proofs.Common.{◌≡◌, ℕ, zero, suc, ◌++◌, ◌+◌, ◌-◌, ◌<◌, ◌≤◌, List, [], ◌∷◌, get_or, length, length-append}
 use Rattle.std.proofs.Common.{length-take, length-drop, append_assoc, take, drop, refl, sym, ap, ap₂, ◌∙◌, subst, arith}
-use Rattle.std.proofs.Common.{nat_eq, if◌then◌else◌, ◌==◌, ◌≢◌}
+use Rattle.std.proofs.Common.{nat_eq, if◌then◌else◌, ◌==◌, ◌≢◌, rules}
 use Rattle.std.proofs.lemmas.Bool.Decides.{nat_tests}
 use Rattle.std.proofs.lemmas.List.{length-set, take_all, places}
 use Rattle.std.proofs.lemmas.Option.{none-some, slice_get-get_or, cond_some, get_or_from_slice_get, slice_get_within}
@@ -13,7 +13,6 @@ use Rattle.net_ring.specs.Ring.{RingState, index_after, queue, storage_index, Is
 use Rattle.net_ring.specs.Ring.{with_elements, window, write_at, with_enqueued, Enqueues}
 use Rattle.net_ring.specs.RingHead.{ring_at, place, enqueued_place, dequeued_place, rewound, contiguous_free, IsSound}
 use Rattle.std.specs.declared.option.Option.TheVariants.{Some, None}
-use Rattle.std.proofs.Common.{rules}
 use Rattle.net_packets.specs.{Packet, PacketsState, packet, byte_ring, bytes_used, slots_used, slots_for, gap_for}
 use Rattle.net_packets.specs.{IsWellPlaced, IsFirstSized, first_gap, first_size, without_gap, without_first, placement}
 use Rattle.net_packets.specs.{with_packet, with_packet_if, with_packet_if_room, only_last, last_index, last_bytes}

@@ -1,6 +1,6 @@
 -- The queue that a head and slots without headers represent, after a step on its numbers.
 use Rattle.std.proofs.Common.{◌≢◌, ◌≡◌, ℕ, zero, suc, ◌++◌, ◌+◌, ◌-◌, ◌<◌, ◌≤◌, List, [], ◌∷◌, get_or, length, drop}
-use Rattle.std.proofs.Common.{refl, sym, ap, ap₂, ◌∙◌, subst, inl, inr, arith, ◌⊎◌, map, nat_eq, if◌then◌else◌}
+use Rattle.std.proofs.Common.{refl, sym, ap, ap₂, ◌∙◌, subst, inl, inr, arith, ◌⊎◌, map, nat_eq, if◌then◌else◌, rules}
 use Rattle.std.proofs.lemmas.Bool.{cases_Bool, cond-true, cond-false}
 use Rattle.std.proofs.lemmas.Bool.Decides.{nat_tests}
 use Rattle.std.proofs.lemmas.List.{length-map, length-replicate, map-set}
@@ -12,7 +12,6 @@ use Rattle.std.specs.List.{slice_get}
 use Rattle.net_ring.specs.Ring.{index_after, queue, storage_index}
 use Rattle.net_ring.specs.RingHead.{place, IsSound}
 use Rattle.std.specs.declared.option.Option.TheVariants.{Some, None}
-use Rattle.std.proofs.Common.{rules}
 use Rattle.net_packets.specs.{Packet, packet, slots_used, IsPlaced, ArePlaced, first_gap, first_size, without_first_gap}
 use Rattle.net_packets.specs.{without_gap, without_first_and_gap, without_first, with_last_size, with_packet_if}
 use Rattle.net_packets.specs.{with_packet_if_room, slot, gap_slot, packet_slots, packets_in, AreSoundParts, IsSoundHead}

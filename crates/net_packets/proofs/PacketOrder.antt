@@ -2,7 +2,7 @@
 -- whole runs. What a queue with no packets takes.
 use Rattle.std.proofs.Common.{◌≢◌, ◌≡◌, ℕ, ◌+◌, ◌≤◌, List, [], ◌∷◌, ◌++◌, length, take, drop, refl, sym, ap, ap₂, ◌∙◌}
 use Rattle.std.proofs.Common.{arith, length-drop, ◌-◌, subst, inl, append_assoc, length-append, suc, ◌↔◌, Bool, true}
-use Rattle.std.proofs.Common.{false, if◌then◌else◌, ◌==◌, Result, Ok, Err, IfOk, zero, ◌<◌}
+use Rattle.std.proofs.Common.{false, if◌then◌else◌, ◌==◌, Result, Ok, Err, IfOk, zero, ◌<◌, rules}
 use Rattle.std.proofs.lemmas.List.{take_at, drop_at, nil_from_length, take_all, take-take, drop-drop, length-take-le}
 use Rattle.std.proofs.lemmas.List.{take-append-le, drop-append-le, append-nil}
 use Rattle.std.specs.Prelude.{Option, set}
@@ -32,7 +32,6 @@ use Rattle.std.proofs.lemmas.Bool.{eqb-true, eq-eqb, le-leb, lt-leb, cond-true, 
 use Rattle.std.proofs.lemmas.Option.{none-some}
 use Rattle.std.proofs.Math.Seq.{set-append_seam}
 use Rattle.std.proofs.lemmas.Bool.Decides.{nat_tests}
-use Rattle.std.proofs.Common.{rules}
 use Rattle.net_ring.specs.Log.{Log, empty_log}
 
 pub some_of : (o : Option ℕ) → o ≢ None → (n : ℕ) × (o ≡ Some n)

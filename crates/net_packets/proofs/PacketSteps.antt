@@ -1,8 +1,8 @@
 -- What the two rings of a queue of packets say of its packets.
 -- What a queue of packets is after a step on its two rings.
 use Rattle.std.proofs.Common.{◌≢◌, zero, suc, ◌≡◌, ℕ, ◌+◌, ◌-◌, ◌<◌, ◌≤◌, List, [], ◌∷◌, ◌++◌, length, min, refl, sym}
-use Rattle.std.proofs.Common.{ap, ap₂, ◌∙◌, subst, inl, inr, arith, ◌⊎◌, append_assoc, length-append, nat_le}
-use Rattle.std.proofs.Common.{drop}
+use Rattle.std.proofs.Common.{ap, ap₂, ◌∙◌, subst, inl, inr, arith, ◌⊎◌, append_assoc, length-append, nat_le, drop}
+use Rattle.std.proofs.Common.{rules}
 use Rattle.std.proofs.lemmas.Bool.{cases_lt, cases_Bool, cond-true, cond-false, leb-true, lt-ltb, le-ltb}
 use Rattle.std.proofs.lemmas.Bool.Decides.{nat_tests}
 use Rattle.std.proofs.lemmas.Option.{none-some, cond_some}
@@ -25,7 +25,6 @@ use Rattle.net_ring.proofs.RingFacts.{rewound_ring, rewind_cases, rewind_wf, rew
 use Rattle.net_ring.proofs.Rotations.{length-queue, length-overwrite, with_dequeued_parts}
 use Rattle.std.proofs.lemmas.List.{take_at, drop_at}
 use Rattle.std.specs.List.{slice_get}
-use Rattle.std.proofs.Common.{rules}
 
 -- a list that is not empty ends in an element
 pub ends_in : {X : Type 0} (xs : List X) → xs ≢ [] → (ys : List X) × (y : X) × (xs ≡ ys ++ (y ∷ []))

@@ -1,15 +1,12 @@
 -- What a search in the offsets of a scoreboard says of its positions.
-use Rattle.net_receiver.proofs.Words.{position_fits}
-use Rattle.net_receiver.proofs.Words.{common_steps}
-use Rattle.net_receiver.proofs.Words.{◌≡◌, ℕ, ◌+◌, ◌-◌, ◌<◌, ◌≤◌, ◌^◌, min, max, true, false, nat_tests, arith, sym}
-use Rattle.net_receiver.proofs.Words.{refl, ap, subst, ◌∙◌, zero, suc, cases_lt, either, both_ways, not, from_bool}
-use Rattle.net_receiver.proofs.Words.{cases_Bool, ◌⊎◌, inl, inr}
-use Rattle.net_receiver.proofs.Words.{IsTrue, Some, None, Positions, contains, first_missing, first_missing-is}
-use Rattle.net_receiver.proofs.Words.{first_missing-le, first_missing-has, first_missing-misses, IsNextHole, board}
+use Rattle.net_receiver.proofs.Words.{position_fits, common_steps, ◌≡◌, ℕ, ◌+◌, ◌-◌, ◌<◌, ◌≤◌, ◌^◌, min, max, true}
+use Rattle.net_receiver.proofs.Words.{false, nat_tests, arith, sym, refl, ap, subst, ◌∙◌, zero, suc, cases_lt, either}
+use Rattle.net_receiver.proofs.Words.{both_ways, not, from_bool, cases_Bool, ◌⊎◌, inl, inr, IsTrue, Some, None}
+use Rattle.net_receiver.proofs.Words.{Positions, contains, first_missing, first_missing-is, first_missing-le}
+use Rattle.net_receiver.proofs.Words.{first_missing-has, first_missing-misses, IsNextHole, board, List, [], ◌∷◌, ◌↔◌}
+use Rattle.net_receiver.proofs.Words.{nat_lt, length, drop, get_or, slice_get, maximal_runs, IsMaximalRun}
+use Rattle.net_receiver.proofs.Words.{runs_shifted_up, set_of, IsRising, sizes, beyond, reported_by, IsSoundBoard}
 use Rattle.net_assembler.specs.Positions.{EndsHole, missing_count, present_count}
-use Rattle.net_receiver.proofs.Words.{List, [], ◌∷◌, ◌↔◌, nat_lt, length, drop, get_or, slice_get}
-use Rattle.net_receiver.proofs.Words.{maximal_runs, IsMaximalRun, runs_shifted_up, set_of, IsRising, sizes, beyond}
-use Rattle.net_receiver.proofs.Words.{reported_by, IsSoundBoard}
 use Rattle.std.proofs.Math.Seq.{drop-cons}
 use Rattle.std.proofs.lemmas.List.Elements.{All-get_or}
 use Rattle.std.proofs.lemmas.Option.{slice_get_within, slice_get-get_or, get_or_from_slice_get}

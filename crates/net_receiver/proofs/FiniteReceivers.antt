@@ -1,67 +1,53 @@
 -- A receiver of a stream that ends: where its bytes are, its laws, and lists of segments and reads.
 use Rattle.std.proofs.Common.{not}
-use Rattle.std.proofs.lemmas.Bool.{and_left}
-use Rattle.std.proofs.lemmas.Bool.{leb-true, eqb-true, le-ltb, le-leb}
-use Rattle.std.proofs.lemmas.Bool.{cond-true}
+use Rattle.std.proofs.lemmas.Bool.{and_left, leb-true, eqb-true, le-ltb, le-leb, cond-true, not-true}
 use Rattle.net_assembler.specs.Positions.{bound_of}
-use Rattle.net_receiver.specs.{top_of, knows_end}
-use Rattle.net_receiver.specs.{bytes_end}
-use Rattle.net_receiver.specs.{bytes_result, with_error}
-use Rattle.net_receiver.specs.{MatchesStream, ReplyValue, ReadReply, ShowReply, queue, queued, byte, missing, byte_at}
-use Rattle.net_receiver.specs.FiniteHead.{usual_storage_after}
+use Rattle.net_receiver.specs.{top_of, knows_end, bytes_end, bytes_result, with_error, MatchesStream, ReplyValue}
+use Rattle.net_receiver.specs.{ReadReply, ShowReply, queue, queued, byte, missing, byte_at, HasSoundHeld}
+use Rattle.net_receiver.specs.{HasSoundFinite, next_at, held_at, top_at, can_end_by, ReceivesFrom, AcknowledgedGrows}
+use Rattle.net_receiver.specs.{EndIsTaken, AllBytesComplete, finite_after_command, bytes_of, bytes_taken, SoundEndStays}
+use Rattle.net_receiver.specs.{EndStays, SegmentOfStream, ReadsTheStream, OnlyEndsDiffer, KeepsNone, EndInOrder}
+use Rattle.net_receiver.specs.{queue_only, queue_alone, ends_in_order, before_segment, usual_after, usual_result}
+use Rattle.net_receiver.specs.{without_held, kept_before, kept_after, replies_to_all, window_part, Verdict, plain_of}
+use Rattle.net_receiver.specs.{AreAccepted, BringsByte, BringsEnd, Resends, EndsWithin, FiniteCompletes, FiniteRecovers}
+use Rattle.net_receiver.specs.{ResentIsRead, FiniteCommandFits}
+use Rattle.net_receiver.specs.FiniteHead.{usual_storage_after, end_of, next_of}
 use Rattle.net_receiver.specs.Headline.{replies_from}
-use Rattle.net_receiver.specs.{HasSoundHeld, HasSoundFinite, next_at, held_at, top_at, can_end_by}
-use Rattle.net_receiver.specs.FiniteHead.{end_of, next_of}
-use Rattle.net_receiver.proofs.Words.{AssemblerHead, Refuses, Keeps}
-use Rattle.net_receiver.specs.{ReceivesFrom, AcknowledgedGrows, EndIsTaken}
-use Rattle.net_receiver.specs.{AllBytesComplete}
-use Rattle.net_receiver.specs.{finite_after_command, bytes_of, bytes_taken}
-use Rattle.net_receiver.specs.{SoundEndStays, EndStays, SegmentOfStream, ReadsTheStream, OnlyEndsDiffer, KeepsNone}
-use Rattle.net_receiver.specs.{EndInOrder, queue_only, queue_alone, ends_in_order, before_segment, usual_after}
-use Rattle.net_receiver.specs.{usual_result}
-use Rattle.net_receiver.specs.{without_held, kept_before, kept_after, replies_to_all, window_part}
-use Rattle.net_receiver.specs.{Verdict}
-use Rattle.net_receiver.specs.{plain_of, AreAccepted, BringsByte, BringsEnd, Resends}
-use Rattle.net_receiver.specs.{EndsWithin, FiniteCompletes, FiniteRecovers, ResentIsRead, FiniteCommandFits}
+use Rattle.net_receiver.proofs.Words.{AssemblerHead, Refuses, Keeps, ◌≡◌, ◌⊎◌, inl, inr, ℕ, ◌+◌, ◌-◌, ◌<◌, ◌≤◌, ◌&&◌}
+use Rattle.net_receiver.proofs.Words.{Bool, true, false, cond, List, [], ◌∷◌, length, take, min, nat_le, nat_eq, is_ok}
+use Rattle.net_receiver.proofs.Words.{is_some, Result, Err, refl, sym, ap, ◌∙◌, arith, ⊎_elim, length-take, length-drop}
+use Rattle.net_receiver.proofs.Words.{◌++◌, drop, All, nat_lt, None, slice_get, take_all, append_assoc, append-nil}
+use Rattle.net_receiver.proofs.Words.{take-add, max, subst, nat_cmp, both_ways, cases_lt, cond_both, and_parts}
+use Rattle.net_receiver.proofs.Words.{and_cases, not-false, or_cases, or_left, or_right, ltb-true, lt-ltb, and_from}
+use Rattle.net_receiver.proofs.Words.{cases_Bool, cond-false, ltb-false, nat_tests, common_steps, positions, contains}
+use Rattle.net_receiver.proofs.Words.{has, contains-positions, Piece, piece, piece_byte_at, piece_within, Segment}
+use Rattle.net_receiver.proofs.Words.{state_after, verdict, numbers, domain, next_position, limit_of}
+use Rattle.net_receiver.proofs.Words.{receiver_with_piece, receiver_after_command, receiver_after_read, fresh_receiver}
+use Rattle.net_receiver.proofs.Words.{FiniteState, no_end, can_end, below_end, end_after, has_other_end, finite_after}
+use Rattle.net_receiver.proofs.Words.{finite_after_read, finite_result, fresh_finite, IsSoundEnd, finite_of}
+use Rattle.net_receiver.proofs.Words.{HasSoundParts, storage_after, is_complete, acknowledged, has_read_all}
+use Rattle.net_receiver.proofs.Words.{FiniteCommand, Arrives, Reads, finite_after_commands, CommandMatches}
+use Rattle.net_receiver.proofs.Words.{ReceivesFinite, CommandValue, Read, SegmentReply, setting, Refines}
+use Rattle.net_receiver.proofs.Words.{receiver_after_commands, receiver_reply, receiver_replies, state_from, IsAccepted}
+use Rattle.net_receiver.proofs.Words.{bytes_read, Brings, MatchesFinite, ReceiverState, ReceiverHead, TooManyHolesError}
+use Rattle.net_receiver.proofs.Words.{KeptBytes, set_of, slice_get_within, take-take, All-head, slice_range, take_min}
+use Rattle.net_receiver.proofs.Words.{All-tail, All-nil, All-cons, All-append, false_from_ne_true, IsSound}
+use Rattle.net_receiver.proofs.Words.{same_positions, nothing, contains-nothing, runs, runs-nothing, nil_from_length}
+use Rattle.net_receiver.proofs.Words.{option_or, map, Option, IsTrue, range_with_len, unwrap_or, KeptState, HasRoom}
+use Rattle.net_receiver.proofs.Words.{is_covered, Agrees, PieceAgrees}
 use Rattle.net_receiver.specs.Finite.{FiniteSchedules}
 use Rattle.net_receiver.specs.declared.finite_receiver_head.FiniteReceiverHead.{FiniteReceiverHead}
 use Rattle.net_receiver.proofs.Heads.{offset_of, at_offset, top_is, next_is, limit_is}
-use Rattle.net_receiver.proofs.Words.{◌≡◌, ◌⊎◌, inl, inr, ℕ, ◌+◌, ◌-◌, ◌<◌, ◌≤◌, ◌&&◌, Bool, true, false, cond, List}
-use Rattle.net_receiver.proofs.Words.{[], ◌∷◌, length, take, min, nat_le, nat_eq, is_ok, is_some, Result, Err, refl}
-use Rattle.net_receiver.proofs.Words.{sym, ap, ◌∙◌, arith, ⊎_elim, length-take, length-drop, ◌++◌, drop, All, nat_lt}
-use Rattle.net_receiver.proofs.Words.{None, slice_get, take_all, append_assoc, append-nil, take-add, max, subst}
-use Rattle.net_receiver.proofs.Words.{nat_cmp, both_ways, cases_lt, cond_both, and_parts, and_cases, not-false}
-use Rattle.net_receiver.proofs.Words.{or_cases, or_left, or_right, ltb-true, lt-ltb, and_from, cases_Bool, cond-false}
-use Rattle.net_receiver.proofs.Words.{ltb-false, nat_tests, common_steps, positions, contains, has}
-use Rattle.net_receiver.proofs.Words.{contains-positions, Piece, piece, piece_byte_at, piece_within, Segment}
-use Rattle.net_receiver.proofs.Words.{state_after, verdict, numbers, domain, next_position, limit_of}
-use Rattle.net_receiver.proofs.Words.{receiver_with_piece, receiver_after_command, receiver_after_read}
-use Rattle.net_receiver.proofs.Words.{fresh_receiver, FiniteState, no_end, can_end, below_end, end_after}
-use Rattle.net_receiver.proofs.Words.{has_other_end, finite_after, finite_after_read, finite_result, fresh_finite}
-use Rattle.net_receiver.proofs.Words.{IsSoundEnd, finite_of, HasSoundParts, storage_after, is_complete}
-use Rattle.net_receiver.proofs.Words.{acknowledged, has_read_all, FiniteCommand, Arrives, Reads}
-use Rattle.net_receiver.proofs.Words.{finite_after_commands, CommandMatches, ReceivesFinite, CommandValue, Read}
-use Rattle.net_receiver.proofs.Words.{SegmentReply, setting, Refines, receiver_after_commands}
-use Rattle.net_receiver.proofs.Words.{receiver_reply, receiver_replies, state_from, IsAccepted, bytes_read, Brings}
-use Rattle.net_receiver.proofs.Words.{MatchesFinite, ReceiverState, ReceiverHead, TooManyHolesError, KeptBytes}
-use Rattle.net_receiver.proofs.Words.{set_of, slice_get_within, take-take, All-head, slice_range, take_min}
-use Rattle.net_receiver.proofs.Words.{All-tail, All-nil, All-cons, All-append, false_from_ne_true, IsSound}
-use Rattle.net_receiver.proofs.Words.{same_positions}
-use Rattle.net_receiver.proofs.Words.{nothing, contains-nothing, runs, runs-nothing, nil_from_length, option_or, map}
-use Rattle.net_receiver.proofs.Words.{Option, IsTrue}
-use Rattle.net_receiver.proofs.Words.{range_with_len, unwrap_or, KeptState, HasRoom, is_covered, Agrees, PieceAgrees}
 use Rattle.net_receiver.proofs.Sets.{piece_at, clip_at, contains-domain, next_joined, lacks, lacking, updated_has}
 use Rattle.net_receiver.proofs.Sets.{left_above, cond_some, slice_get-take, piece_from, clip_byte, some_cond, same_both}
 use Rattle.net_receiver.proofs.Sets.{first_unique, map_range_same}
 use Rattle.net_receiver.proofs.Schedules.{any_verdict, some_of, schedule, none_of, missing_is}
 use Rattle.net_receiver.proofs.Theorems.{sound_stays}
-use Rattle.std.proofs.lemmas.Bool.{not-true}
 use Rattle.std.specs.Prelude.{IsOk, Ok, OnErr}
 use Rattle.net_receiver.proofs.OneStream.{window_matches, has_all_reaches, segment_receives, read_receives}
-use Rattle.net_receiver.proofs.OneStream.{fresh_receives_from}
-use Rattle.net_receiver.proofs.OneStream.{queue_of, held_of_stream, first_stays, next_position_grows}
-use Rattle.net_receiver.proofs.OneStream.{segment_reads_nothing, read_leaves_next, limit_grows, completes}
-use Rattle.net_receiver.proofs.OneStream.{in_order, in_order_reaches, kept_in_order, head_bytes}
+use Rattle.net_receiver.proofs.OneStream.{fresh_receives_from, queue_of, held_of_stream, first_stays}
+use Rattle.net_receiver.proofs.OneStream.{next_position_grows, segment_reads_nothing, read_leaves_next, limit_grows}
+use Rattle.net_receiver.proofs.OneStream.{completes, in_order, in_order_reaches, kept_in_order, head_bytes}
 use Rattle.net_receiver.proofs.NewestRuns.{there}
 use Rattle.std.specs.FinMap as fin
 use Rattle.net_receiver.specs.declared.kept.FiniteError.TheVariants as errors

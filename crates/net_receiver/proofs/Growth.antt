@@ -1,21 +1,20 @@
 -- A storage whose bytes were copied to a larger one.
-use Rattle.net_receiver.proofs.Words.{nat_tests, common_steps}
+use Rattle.net_receiver.proofs.Words.{nat_tests, common_steps, ◌≡◌, ℕ, ◌+◌, ◌-◌, ◌≤◌, ◌++◌, List, min, length, take}
+use Rattle.net_receiver.proofs.Words.{drop, ap, ◌∙◌, arith, held_bytes, receiver_of, HasSoundParts, ReceiverHead}
+use Rattle.net_receiver.proofs.Words.{ReceiverState, RingState, ring_at, queue, spare, overwrite, length-drop, take_all}
+use Rattle.net_receiver.proofs.Words.{length-take-le, KeptState, Refines, HasRoom, setting, missing, queued, is_covered}
+use Rattle.net_receiver.proofs.Words.{byte, byte_at, map, range_with_len, cond, nat_lt, ◌&&◌, None, length-queue}
+use Rattle.net_receiver.proofs.Words.{length-spare}
 use Rattle.std.proofs.lemmas.List.{get_or_append_left, take-append-le, drop-append-le, places, same_lists}
 use Rattle.std.proofs.Common.{slice_index}
 use Rattle.net_ring.specs.Ring.{rotation}
 use Rattle.net_ring.specs.RingHead.{place}
 use Rattle.net_ring.proofs.Rotations.{length-rotation}
 use Rattle.net_assembler.specs.RunLists.{set_of}
-use Rattle.net_receiver.proofs.Words.{◌≡◌, ℕ, ◌+◌, ◌-◌, ◌≤◌, ◌++◌, List, min, length, take, drop, ap}
-use Rattle.net_receiver.proofs.Words.{◌∙◌, arith, held_bytes, receiver_of, HasSoundParts, ReceiverHead, ReceiverState}
-use Rattle.net_receiver.proofs.Words.{RingState, ring_at, queue, spare, overwrite, length-drop, take_all, length-take-le}
-use Rattle.net_receiver.proofs.Words.{KeptState, Refines, HasRoom, setting, missing, queued, is_covered}
-use Rattle.net_receiver.proofs.Words.{byte, byte_at, map, range_with_len, cond, nat_lt, ◌&&◌, None}
 use Rattle.net_receiver.specs.{ReceivesFrom}
 use Rattle.net_receiver.proofs.Sets.{first_unique}
 use Rattle.net_receiver.proofs.Schedules.{missing_is}
 use Rattle.net_receiver.proofs.Places.{same_held_bytes, both_lengths}
-use Rattle.net_receiver.proofs.Words.{length-queue, length-spare}
 use Rattle.net_receiver.proofs.Heads.{spare_size, queue_size, next_is}
 
 -- ---- the list that two copies leave

@@ -1,43 +1,38 @@
 -- What a kept part and a read make of a head, a storage and runs.
-use Rattle.std.proofs.Common.{IsErr, max, ◌&&◌, nat_le}
+use Rattle.std.proofs.Common.{IsErr, max, ◌&&◌, nat_le, replicate}
 use Rattle.std.proofs.lemmas.Bool.{and_parts, and_from, leb-true, le-leb}
-use Rattle.net_assembler.specs.Positions.{contains}
-use Rattle.net_assembler.specs.Positions.{bound_of, positions}
+use Rattle.net_assembler.specs.Positions.{contains, bound_of, positions}
 use Rattle.net_receiver.specs.{HasSoundHeld, next_at, held_at, top_at, top_of, limit_of, count_between, new_count}
 use Rattle.net_receiver.specs.{IsReadAt}
 use Rattle.net_receiver.proofs.Sets.{piece_at, next_joined, updated, lacks, lacking, updated_has, left_above}
 use Rattle.net_receiver.proofs.Sets.{ends_below, begins_above, ends_within}
 use Rattle.net_assembler.proofs.Runs.{are_maximal_runs}
-use Rattle.net_receiver.proofs.Words.{All, EndBelow}
+use Rattle.net_receiver.proofs.Words.{All, EndBelow, ◌≡◌, ℕ, ◌+◌, ◌-◌, ◌<◌, ◌≤◌, ◌^◌, true, sym, ◌∙◌, arith, ⊎_elim}
+use Rattle.net_receiver.proofs.Words.{le_trans, length-drop, min, false, List, ◌++◌, length, take, drop, ◌⊎◌, Ok, Err}
+use Rattle.net_receiver.proofs.Words.{refl, ap, nat_eq, cond-true, cond-false, length-replicate, subst, length-take}
+use Rattle.net_receiver.proofs.Words.{take_all, Result, cases_lt, or_cases, both_ways, runs, Positions, with_range}
+use Rattle.net_receiver.proofs.Words.{maximal_runs, runs_shifted_up, Piece, end, piece, piece_within, domain}
+use Rattle.net_receiver.proofs.Words.{next_position, receiver_after_read, IsSound, receiver_with_piece, Refuses, Keeps}
+use Rattle.net_receiver.proofs.Words.{verdict, state_after, numbers, Fits64Bits, parts, receiver_of, HasSoundParts}
+use Rattle.net_receiver.proofs.Words.{storage_after, head_after_read, ReceiverState, drop_min, take_min, length-take-le}
+use Rattle.net_receiver.proofs.Words.{TooManyHolesError, overwrite, MakesTooManyRuns, too_many, RingState, queue, spare}
+use Rattle.net_receiver.proofs.Words.{with_enqueued, with_dequeued, with_elements_wrapping, RingHead, ring_at}
+use Rattle.net_receiver.proofs.Words.{dequeued_place, length-queue, length-spare, length-overwrite, set_of}
+use Rattle.net_receiver.proofs.Words.{HasSoundRuns, AssemblerHead, ReceiverHead}
 use Rattle.net_assembler.proofs.Sets.{contains-shift_up, maximal_runs-shift_up, same_positions}
 use Rattle.net_assembler.proofs.SoundHeads.{few_held}
 use Rattle.net_receiver.proofs.Schedules.{read_less}
 use Rattle.net_receiver.proofs.Places.{IsReceiver, HasRoom, IsFrontRemoved, held_count, read_parts, joined_parts}
 use Rattle.net_receiver.proofs.Places.{queued_is, m_within, refused_verdict, kept_verdict, clip_is, stays_at}
 use Rattle.net_receiver.proofs.Places.{domain_moved, resumed, are_within, index_is}
-use Rattle.net_ring.specs.Ring.{index_after, WritesSpare}
-use Rattle.net_ring.specs.Ring.{spare_index}
+use Rattle.net_ring.specs.Ring.{index_after, WritesSpare, spare_index}
 use Rattle.net_ring.specs.RingHead.{IsSound as IsSoundPlace, enqueued_place}
 use Rattle.std.proofs.lemmas.Grind.{common_steps}
 use Rattle.std.proofs.lemmas.Bool.Decides.{nat_tests}
-use Rattle.net_receiver.proofs.Words.{◌≡◌, ℕ, ◌+◌, ◌-◌, ◌<◌, ◌≤◌, ◌^◌, true, sym, ◌∙◌, arith, ⊎_elim, le_trans}
-use Rattle.net_receiver.proofs.Words.{length-drop, min, false, List, ◌++◌, length, take, drop, ◌⊎◌, Ok, Err, refl, ap}
-use Rattle.std.proofs.Common.{replicate}
 use Rattle.std.proofs.lemmas.List.{take_rest}
-use Rattle.net_receiver.proofs.Words.{nat_eq, cond-true, cond-false, length-replicate}
 use Rattle.net_receiver.specs.ReceiverState.{KeepsNone}
 use Rattle.net_receiver.specs.Head.{with_admitted}
 use Rattle.net_receiver.specs.declared.receiver_head.Admitted.{Admitted}
-use Rattle.net_receiver.proofs.Words.{subst, length-take, take_all, Result, cases_lt, or_cases, both_ways, runs}
-use Rattle.net_receiver.proofs.Words.{Positions, with_range, maximal_runs, runs_shifted_up, Piece, end, piece}
-use Rattle.net_receiver.proofs.Words.{piece_within, domain, next_position, receiver_after_read, IsSound}
-use Rattle.net_receiver.proofs.Words.{receiver_with_piece, Refuses, Keeps, verdict, state_after, numbers, Fits64Bits}
-use Rattle.net_receiver.proofs.Words.{parts, receiver_of, HasSoundParts, storage_after, head_after_read}
-use Rattle.net_receiver.proofs.Words.{ReceiverState, drop_min, take_min, length-take-le, TooManyHolesError, overwrite}
-use Rattle.net_receiver.proofs.Words.{MakesTooManyRuns, too_many, RingState, queue, spare, with_enqueued}
-use Rattle.net_receiver.proofs.Words.{with_dequeued, with_elements_wrapping, RingHead, ring_at, dequeued_place}
-use Rattle.net_receiver.proofs.Words.{length-queue, length-spare, length-overwrite, set_of, HasSoundRuns}
-use Rattle.net_receiver.proofs.Words.{AssemblerHead, ReceiverHead}
 use Rattle.net_ring.proofs.RingFacts.{with_enqueued_law, with_dequeued_law, overwrite_whole, wrapping_at}
 use Rattle.std.specs.FinMap as fin
 

@@ -2,15 +2,13 @@
 use Rattle.net_ring.specs.Width.{shortfall}
 use Rattle.net_receiver.specs.{HasSoundHeld}
 use Rattle.net_receiver.specs.declared.receiver_head.ReceiverHead.{ReceiverHead}
-use Rattle.net_receiver.proofs.Words.{set_of, position_fits}
-use Rattle.net_receiver.proofs.Words.{common_steps}
+use Rattle.net_receiver.proofs.Words.{set_of, position_fits, common_steps, ◌≡◌, ◌⊎◌, inl, inr, ℕ, zero, suc, ◌+◌, ◌-◌}
+use Rattle.net_receiver.proofs.Words.{◌<◌, ◌≤◌, ◌^◌, min, false, List, [], ◌∷◌, length, Some, None, slice_get, get_or}
+use Rattle.net_receiver.proofs.Words.{refl, sym, ap, subst, ◌∙◌, arith, find, cond-true, cond-false, cases_lt}
+use Rattle.net_receiver.proofs.Words.{Positions, contains, maximal_runs, lies_in, IsMaximalRun, IsTrue, IsRising}
+use Rattle.net_receiver.proofs.Words.{run_at, shift_up, runs_shifted_up, maximal_runs-shift_up, end_at, Bool, true}
+use Rattle.net_receiver.proofs.Words.{cond, not, max, ◌&&◌, nat_le, nat_lt, le-leb, contains-shift_up, from_bool}
 use Rattle.std.proofs.lemmas.Bool.Decides.{nat_tests}
-use Rattle.net_receiver.proofs.Words.{◌≡◌, ◌⊎◌, inl, inr, ℕ, zero, suc, ◌+◌, ◌-◌, ◌<◌, ◌≤◌, ◌^◌, min, false, List, []}
-use Rattle.net_receiver.proofs.Words.{◌∷◌, length, Some, None, slice_get, get_or, refl, sym, ap, subst, ◌∙◌, arith}
-use Rattle.net_receiver.proofs.Words.{find, cond-true, cond-false, cases_lt, Positions, contains, maximal_runs, lies_in}
-use Rattle.net_receiver.proofs.Words.{IsMaximalRun, IsTrue, IsRising, run_at, shift_up, runs_shifted_up}
-use Rattle.net_receiver.proofs.Words.{maximal_runs-shift_up, end_at, Bool, true, cond, not, max, ◌&&◌, nat_le, nat_lt}
-use Rattle.net_receiver.proofs.Words.{le-leb, contains-shift_up, from_bool}
 use Rattle.std.proofs.lemmas.List.Elements.{All-get_or}
 use Rattle.std.proofs.lemmas.Option.{slice_get_within, slice_get-get_or, get_or_from_slice_get}
 use Rattle.net_assembler.specs.RunLists.{SplitsRuns, start_at}

@@ -2,16 +2,15 @@
 use Rattle.std.proofs.lemmas.Bool.Decides.{nat_tests}
 use Rattle.net_receiver.proofs.Words.{◌≡◌, ◌⊎◌, inl, inr, ℕ, ◌+◌, ◌-◌, ◌<◌, ◌≤◌, ◌||◌, Bool, true, false, cond, List}
 use Rattle.net_receiver.proofs.Words.{[], ◌∷◌, ◌++◌, length, map, take, Some, None, All, slice_get, is_some, refl, sym}
-use Rattle.net_receiver.proofs.Words.{ap, subst, ◌∙◌, arith, ⊎_elim, leb-true, le-leb, le_refl, take_all}
-use Rattle.net_receiver.proofs.Words.{length-append, append_assoc, suc, unwrap_or, zero, min, max, ◌&&◌, nat_le}
-use Rattle.net_receiver.proofs.Words.{nat_lt, le-ltb, drop, length-take, length-drop, slice_get_within, count_by}
-use Rattle.net_receiver.proofs.Words.{find, list_any, range_with_len, both_ways, and_parts, and_from}
-use Rattle.net_receiver.proofs.Words.{cases_Bool, cases_lt, cond-true, cond-false, ltb-true, lt-ltb, or_left, or_right}
-use Rattle.net_receiver.proofs.Words.{or_cases, false_from_ne_true, lt-leb, length-map, All-nil, All-cons, All-head}
-use Rattle.net_receiver.proofs.Words.{All-tail, All-append, sum_by-cons, Positions, contains, maximal_runs, lies_in}
-use Rattle.net_receiver.proofs.Words.{IsMaximalRun, run_at, newest_runs, CommandValue, IsSound}
-use Rattle.net_receiver.proofs.Words.{next_position, receiver_after_command, receiver_after_commands, HasByteAt}
-use Rattle.net_receiver.proofs.Words.{ReceiverState}
+use Rattle.net_receiver.proofs.Words.{ap, subst, ◌∙◌, arith, ⊎_elim, leb-true, le-leb, le_refl, take_all, length-append}
+use Rattle.net_receiver.proofs.Words.{append_assoc, suc, unwrap_or, zero, min, max, ◌&&◌, nat_le, nat_lt, le-ltb, drop}
+use Rattle.net_receiver.proofs.Words.{length-take, length-drop, slice_get_within, count_by, find, list_any}
+use Rattle.net_receiver.proofs.Words.{range_with_len, both_ways, and_parts, and_from, cases_Bool, cases_lt, cond-true}
+use Rattle.net_receiver.proofs.Words.{cond-false, ltb-true, lt-ltb, or_left, or_right, or_cases, false_from_ne_true}
+use Rattle.net_receiver.proofs.Words.{lt-leb, length-map, All-nil, All-cons, All-head, All-tail, All-append}
+use Rattle.net_receiver.proofs.Words.{sum_by-cons, Positions, contains, maximal_runs, lies_in, IsMaximalRun, run_at}
+use Rattle.net_receiver.proofs.Words.{newest_runs, CommandValue, IsSound, next_position, receiver_after_command}
+use Rattle.net_receiver.proofs.Words.{receiver_after_commands, HasByteAt, ReceiverState}
 use Rattle.std.proofs.lemmas.Option.{slice_get-map}
 use Rattle.std.specs.Option.{option_to_list, option_map}
 use Rattle.std.proofs.lemmas.Bool.{true_from_ne_false}

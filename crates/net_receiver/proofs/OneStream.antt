@@ -6,18 +6,17 @@ use Rattle.net_receiver.proofs.Words.{length-append, length-drop, ⊎_elim, take
 use Rattle.net_receiver.proofs.Words.{unwrap_or, take_all, Result, Ok, Err, length-take, ◌⊎◌, inl, inr, true, false}
 use Rattle.net_receiver.proofs.Words.{cond, Option, None, is_some, le-leb, le_trans, cases_lt, and_parts, false≢true}
 use Rattle.net_receiver.proofs.Words.{or_left, cond-true, and_from, or_right, false_from_ne_true, slice_get_within}
-use Rattle.net_receiver.proofs.Words.{none-some, All-nil, All-head, All-tail, All-weaker}
-use Rattle.net_receiver.proofs.Words.{CommandValue, Segment, Read, Show, ReplyValue, unread, queued, missing, step}
-use Rattle.net_receiver.proofs.Words.{Piece, piece, piece_within, byte_at, Setting, KeptState, fresh_kept, HasRoom}
-use Rattle.net_receiver.proofs.Words.{bytes_read, PieceAgrees, Agrees, fresh_receiver, next_position, limit_of}
-use Rattle.net_receiver.proofs.Words.{receiver_after_command, receiver_after_commands, setting, Executes, IsTruthful}
-use Rattle.net_receiver.proofs.Words.{is_held, verdict, state_after, numbers, segment_result, receiver_reply, Refines}
-use Rattle.net_receiver.proofs.Words.{HeldBytes, domain, held_with_piece, first_lacking, held_bytes_at}
-use Rattle.net_receiver.proofs.Words.{receiver_after_read, IsSound, Follows, EndsBy, MatchesLonger, MatchesWhatIsThere}
-use Rattle.net_receiver.proofs.Words.{piece_byte_at, SegmentReply, receiver_with_piece, receiver_up_to}
-use Rattle.net_receiver.proofs.Words.{receiver_replies, IsAccepted, HasByteAt, Brings, ReceiverState, option_or}
-use Rattle.net_receiver.proofs.Words.{common_steps, drop-drop, TooManyHolesError, Kept}
-use Rattle.net_receiver.proofs.Words.{KeptBytes}
+use Rattle.net_receiver.proofs.Words.{none-some, All-nil, All-head, All-tail, All-weaker, CommandValue, Segment, Read}
+use Rattle.net_receiver.proofs.Words.{Show, ReplyValue, unread, queued, missing, step, Piece, piece, piece_within}
+use Rattle.net_receiver.proofs.Words.{byte_at, Setting, KeptState, fresh_kept, HasRoom, bytes_read, PieceAgrees, Agrees}
+use Rattle.net_receiver.proofs.Words.{fresh_receiver, next_position, limit_of, receiver_after_command}
+use Rattle.net_receiver.proofs.Words.{receiver_after_commands, setting, Executes, IsTruthful, is_held, verdict}
+use Rattle.net_receiver.proofs.Words.{state_after, numbers, segment_result, receiver_reply, Refines, HeldBytes, domain}
+use Rattle.net_receiver.proofs.Words.{held_with_piece, first_lacking, held_bytes_at, receiver_after_read, IsSound}
+use Rattle.net_receiver.proofs.Words.{Follows, EndsBy, MatchesLonger, MatchesWhatIsThere, piece_byte_at, SegmentReply}
+use Rattle.net_receiver.proofs.Words.{receiver_with_piece, receiver_up_to, receiver_replies, IsAccepted, HasByteAt}
+use Rattle.net_receiver.proofs.Words.{Brings, ReceiverState, option_or, common_steps, drop-drop, TooManyHolesError}
+use Rattle.net_receiver.proofs.Words.{Kept, KeptBytes}
 use Rattle.std.proofs.Common.{ltb-true, IsOk, IfOk, OnErr, lt-ltb}
 use Rattle.std.proofs.lemmas.List.Elements.{All-push}
 use Rattle.net_receiver.specs.{queue, state_from, Receives, QueueIsOf, FirstStays, NextGrows, LimitGrows}
@@ -29,20 +28,17 @@ use Rattle.net_receiver.specs.{MatchesInWindow, AllMatchInWindow, WindowMatches,
 use Rattle.net_receiver.specs.{HasAllReaches, Completes, ReadLeavesNext, ReadLeavesBytes, ReadsAdd, ReadsGiveTogether}
 use Rattle.net_receiver.proofs.Sets.{clip_at, get-with_bytes_at, next_joined, lacks, lacking, updated_has, piece_from}
 use Rattle.net_receiver.proofs.Sets.{piece_at, piece_some, cond_some, slice_get-drop, slice_get-take, first_unique}
-use Rattle.net_receiver.proofs.Sets.{clip_byte}
-use Rattle.net_receiver.proofs.Sets.{same_both, same_bytes, get_from, updated, left_has, left_above}
+use Rattle.net_receiver.proofs.Sets.{clip_byte, same_both, same_bytes, get_from, updated, left_has, left_above}
 use Rattle.net_receiver.proofs.Schedules.{missing_is, part_cases, window_piece, segment_cases, same_next, queue_length}
 use Rattle.net_receiver.proofs.Schedules.{schedule, setting_kept, settings_kept, queue_agrees, agrees_at, some_of}
 use Rattle.net_receiver.proofs.Schedules.{stream, follows_verdict, any_verdict, read_prefix}
-use Rattle.net_receiver.proofs.Theorems.{fresh_refines, ran}
-use Rattle.std.proofs.lemmas.List.{append_assoc, take-append-drop, drop_at, append-nil}
+use Rattle.net_receiver.proofs.Theorems.{fresh_refines, ran, held_none}
+use Rattle.std.proofs.lemmas.List.{append_assoc, take-append-drop, drop_at, append-nil, length-replicate}
 use Rattle.net_assembler.proofs.SoundHeads.{runs-set_of}
 use Rattle.net_ring.proofs.Rotations.{length-queue, length-spare}
 use Rattle.net_receiver.proofs.Places.{none_there, held_count, alike}
 use Rattle.net_receiver.proofs.Heads.{lent_view, lent_sound, back_view, back_sound, queue_size, spare_size, next_is}
 use Rattle.net_receiver.proofs.Heads.{limit_is, held_is, top_is, new_is, sound_for, after_read, read_sound, only_err}
-use Rattle.net_receiver.proofs.Theorems.{held_none}
-use Rattle.std.proofs.lemmas.List.{length-replicate}
 use Rattle.std.specs.FinMap as fin
 
 -- ---- What truthful segments leave.

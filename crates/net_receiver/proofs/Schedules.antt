@@ -1,40 +1,34 @@
 -- Schedules by the rules of `Headline.antt`, against what is stored, and streams with which they agree.
 use Rattle.std.proofs.Common.{drop-drop}
-use Rattle.std.proofs.lemmas.Bool.{cases_eq, le-leb}
-use Rattle.std.proofs.lemmas.Bool.{eqb-false, not-true}
+use Rattle.std.proofs.lemmas.Bool.{cases_eq, le-leb, eqb-false, not-true}
 use Rattle.std.proofs.lemmas.List.Elements.{filter_agree}
 use Rattle.std.specs.List.{prefix_len}
 use Rattle.net_assembler.specs.Positions.{run_starts, begins_run, maximal_runs}
-use Rattle.net_assembler.proofs.Sets.{has-range_with_len, runs-maximal_runs}
-use Rattle.net_assembler.proofs.Sets.{few_enough}
-use Rattle.net_receiver.specs.{window, held_runs, with_kept, keeps}
-use Rattle.net_receiver.specs.{after_part, ShowReply}
-use Rattle.net_receiver.specs.{queue, byte_at, KeepsNone}
-use Rattle.net_receiver.specs.{replies_from, state_from}
-use Rattle.net_receiver.specs.{AreAlike, TellsStates, Converges}
+use Rattle.net_assembler.proofs.Sets.{has-range_with_len, runs-maximal_runs, few_enough}
+use Rattle.net_receiver.specs.{window, held_runs, with_kept, keeps, after_part, ShowReply, queue, byte_at, KeepsNone}
+use Rattle.net_receiver.specs.{replies_from, state_from, AreAlike, TellsStates, Converges}
 use Rattle.std.proofs.lemmas.Grind.{common_steps}
 use Rattle.net_receiver.proofs.Words.{◌≡◌, ℕ, zero, suc, ◌+◌, ◌-◌, ◌<◌, ◌≤◌, Bool, true, false, cond, not, ◌&&◌, ◌||◌}
 use Rattle.net_receiver.proofs.Words.{List, [], ◌∷◌, map, filter, length, nat_eq, nat_lt, is_some, Err, refl, sym, ap}
-use Rattle.net_receiver.proofs.Words.{◌∙◌, arith, ⊎_elim, eqb-true, ◌⊎◌, min, ◌++◌, take, drop, nat_le}
-use Rattle.net_receiver.proofs.Words.{Option, Some, None, Ok, unwrap_or, subst, append_assoc, get_or, take_at}
-use Rattle.net_receiver.proofs.Words.{length-take, drop_at, All, slice_get, slice_range, take-add, le_trans, max}
-use Rattle.net_receiver.proofs.Words.{length-drop, ◌↔◌, IsTrue, both_ways, cases_lt, and_parts, and_from, ltb-true}
-use Rattle.net_receiver.proofs.Words.{lt-ltb, cond_both, false_from_ne_true, and_cases, or_right, or_cases, not-false}
-use Rattle.net_receiver.proofs.Words.{or_left, nat_tests, All-nil, All-cons, All-head, All-tail, range_with_len}
-use Rattle.net_receiver.proofs.Words.{take-map, Positions, contains, positions, first_missing, runs, with_range, has}
-use Rattle.net_receiver.proofs.Words.{Rises, positions_rise, rising_unique, contains-positions, first_missing-is}
-use Rattle.net_receiver.proofs.Words.{contains-with_range, too_many, same_positions, Setting, KeptState, Piece}
-use Rattle.net_receiver.proofs.Words.{piece_byte_at, piece_within, ReplyValue, SegmentReply, is_covered, unread}
-use Rattle.net_receiver.proofs.Words.{queued, missing, is_held, CommandValue, Segment, Read, Show, ReadReply}
-use Rattle.net_receiver.proofs.Words.{first_three, step, HasRoom, piece, byte, Verdict, Refuses, Keeps}
-use Rattle.net_receiver.proofs.Words.{verdict_of_piece, verdict, state_after, segment_result, HeldBytes, domain}
-use Rattle.net_receiver.proofs.Words.{next_position, first_lacking, held_bytes_at, receiver_up_to, held_with_piece}
-use Rattle.net_receiver.proofs.Words.{receiver_with_piece, receiver_after_read, setting, Refines}
-use Rattle.net_receiver.proofs.Words.{receiver_after_command, receiver_reply, limit_of, receiver_after_commands}
-use Rattle.net_receiver.proofs.Words.{receiver_replies, items_after, command_value, command_values, reply_value}
-use Rattle.net_receiver.proofs.Words.{new_replies, end, bytes_read, PieceAgrees, Agrees, Follows, EndsBy, IsAccepted}
-use Rattle.net_receiver.proofs.Words.{IsSameState, ReceiverState, option_or, length-map-range_with_len}
-use Rattle.net_receiver.proofs.Words.{makes_too_many_runs, drop_min, slice_get_within}
+use Rattle.net_receiver.proofs.Words.{◌∙◌, arith, ⊎_elim, eqb-true, ◌⊎◌, min, ◌++◌, take, drop, nat_le, Option, Some}
+use Rattle.net_receiver.proofs.Words.{None, Ok, unwrap_or, subst, append_assoc, get_or, take_at, length-take, drop_at}
+use Rattle.net_receiver.proofs.Words.{All, slice_get, slice_range, take-add, le_trans, max, length-drop, ◌↔◌, IsTrue}
+use Rattle.net_receiver.proofs.Words.{both_ways, cases_lt, and_parts, and_from, ltb-true, lt-ltb, cond_both}
+use Rattle.net_receiver.proofs.Words.{false_from_ne_true, and_cases, or_right, or_cases, not-false, or_left, nat_tests}
+use Rattle.net_receiver.proofs.Words.{All-nil, All-cons, All-head, All-tail, range_with_len, take-map, Positions}
+use Rattle.net_receiver.proofs.Words.{contains, positions, first_missing, runs, with_range, has, Rises, positions_rise}
+use Rattle.net_receiver.proofs.Words.{rising_unique, contains-positions, first_missing-is, contains-with_range}
+use Rattle.net_receiver.proofs.Words.{too_many, same_positions, Setting, KeptState, Piece, piece_byte_at, piece_within}
+use Rattle.net_receiver.proofs.Words.{ReplyValue, SegmentReply, is_covered, unread, queued, missing, is_held}
+use Rattle.net_receiver.proofs.Words.{CommandValue, Segment, Read, Show, ReadReply, first_three, step, HasRoom, piece}
+use Rattle.net_receiver.proofs.Words.{byte, Verdict, Refuses, Keeps, verdict_of_piece, verdict, state_after}
+use Rattle.net_receiver.proofs.Words.{segment_result, HeldBytes, domain, next_position, first_lacking, held_bytes_at}
+use Rattle.net_receiver.proofs.Words.{receiver_up_to, held_with_piece, receiver_with_piece, receiver_after_read}
+use Rattle.net_receiver.proofs.Words.{setting, Refines, receiver_after_command, receiver_reply, limit_of}
+use Rattle.net_receiver.proofs.Words.{receiver_after_commands, receiver_replies, items_after, command_value}
+use Rattle.net_receiver.proofs.Words.{command_values, reply_value, new_replies, end, bytes_read, PieceAgrees, Agrees}
+use Rattle.net_receiver.proofs.Words.{Follows, EndsBy, IsAccepted, IsSameState, ReceiverState, option_or}
+use Rattle.net_receiver.proofs.Words.{length-map-range_with_len, makes_too_many_runs, drop_min, slice_get_within}
 use Rattle.net_receiver.proofs.Sets.{IsFirst, first_unique, byte_at_push, covered_push, clip_byte, piece_at}
 use Rattle.net_receiver.proofs.Sets.{piece_before, piece_has, some_cond, some_or, map_range_split, map_range_same}
 use Rattle.net_receiver.proofs.Sets.{drop_range, get-with_bytes_at, first_lacking_is, contains-domain, get_from}

@@ -1,28 +1,24 @@
 -- Scoreboards as a base and offsets: their runs and holes, and up to where what isn't reported is lost.
 use Rattle.std.proofs.lemmas.Grind.{common_steps}
 use Rattle.net_receiver.proofs.Schedules.{rises_from}
-use Rattle.net_assembler.proofs.Sets.{front-is}
-use Rattle.net_receiver.proofs.Words.{position_fits, ◌≡◌, ℕ, ◌+◌, ◌-◌, ◌<◌, ◌≤◌, min, max, nat_lt, true, false}
-use Rattle.net_receiver.proofs.Words.{Bool, List, [], ◌∷◌, All, refl, arith, sym, subst, ◌^◌, ◌&&◌, ◌||◌, ◌++◌}
-use Rattle.net_receiver.proofs.Words.{length, length-append, zero, suc, ap, ◌∙◌, nat_le, ◌↔◌, IsTrue, ◌⊎◌, inl, inr}
-use Rattle.net_receiver.proofs.Words.{Result, Ok, Err, ◌*◌, list_any, range_with_len, both_ways, cases_Bool, cases_lt}
+use Rattle.net_assembler.proofs.Sets.{front-is, positions-set_of_list, with_range-none}
+use Rattle.net_receiver.proofs.Words.{position_fits, ◌≡◌, ℕ, ◌+◌, ◌-◌, ◌<◌, ◌≤◌, min, max, nat_lt, true, false, Bool}
+use Rattle.net_receiver.proofs.Words.{List, [], ◌∷◌, All, refl, arith, sym, subst, ◌^◌, ◌&&◌, ◌||◌, ◌++◌, length}
+use Rattle.net_receiver.proofs.Words.{length-append, zero, suc, ap, ◌∙◌, nat_le, ◌↔◌, IsTrue, ◌⊎◌, inl, inr, Result, Ok}
+use Rattle.net_receiver.proofs.Words.{Err, ◌*◌, list_any, range_with_len, both_ways, cases_Bool, cases_lt}
 use Rattle.net_receiver.proofs.Words.{false_from_ne_true, nat_tests, All-head, All-tail, Positions, contains}
 use Rattle.net_receiver.proofs.Words.{first_missing, maximal_runs, IsMaximalRun, lies_in, positions, runs, with_range}
-use Rattle.net_receiver.proofs.Words.{shift_up, shift_down, runs_shifted_up, nothing, either}
-use Rattle.net_receiver.proofs.Words.{first_missing-misses, Rises, same_positions, contains-nothing}
-use Rattle.net_receiver.proofs.Words.{contains-with_range, contains-shift_up, contains-shift_down, first_missing-has}
-use Rattle.net_receiver.proofs.Words.{maximal_runs-shift_up, IsNextHole, board, reported_by, sizes}
-use Rattle.net_receiver.proofs.Words.{beyond, HasNoRoom, IsSoundBoard, IsSoundScoreboard, length-range_with_len}
-use Rattle.net_receiver.proofs.Words.{MakesTooManyRuns, makes_too_many_runs, TooManyHolesError, IsRising, set_of}
-use Rattle.net_receiver.proofs.Words.{length-runs_of, from_bool, sum_by-cons, AssemblerHead, EndBelow, runs_of, no_runs}
-use Rattle.net_receiver.proofs.Words.{HasSoundRuns}
+use Rattle.net_receiver.proofs.Words.{shift_up, shift_down, runs_shifted_up, nothing, either, first_missing-misses}
+use Rattle.net_receiver.proofs.Words.{Rises, same_positions, contains-nothing, contains-with_range, contains-shift_up}
+use Rattle.net_receiver.proofs.Words.{contains-shift_down, first_missing-has, maximal_runs-shift_up, IsNextHole, board}
+use Rattle.net_receiver.proofs.Words.{reported_by, sizes, beyond, HasNoRoom, IsSoundBoard, IsSoundScoreboard}
+use Rattle.net_receiver.proofs.Words.{length-range_with_len, MakesTooManyRuns, makes_too_many_runs, TooManyHolesError}
+use Rattle.net_receiver.proofs.Words.{IsRising, set_of, length-runs_of, from_bool, sum_by-cons, AssemblerHead, EndBelow}
+use Rattle.net_receiver.proofs.Words.{runs_of, no_runs, HasSoundRuns}
 use Rattle.std.specs.List.{count_by}
 use Rattle.net_assembler.specs.Positions.{front}
-use Rattle.net_assembler.proofs.Sets.{positions-set_of_list}
-use Rattle.net_assembler.proofs.Sets.{with_range-none}
 use Rattle.net_assembler.proofs.Runs.{are_maximal_runs, rising-maximal_runs, set_of_maximal_runs, rising_from}
-use Rattle.net_receiver.specs.{offsets_of, IsEnd}
-use Rattle.net_receiver.specs.{runs_above, tell_loss, IsLossBound, LossesCountAll}
+use Rattle.net_receiver.specs.{offsets_of, IsEnd, runs_above, tell_loss, IsLossBound, LossesCountAll}
 use Rattle.net_assembler.specs.AssemblerLaws.{Adds}
 use Rattle.net_assembler.specs.RunLists.{run_positions, set_of_runs}
 use Rattle.net_assembler.proofs.SoundHeads.{maximal_runs-set_of}

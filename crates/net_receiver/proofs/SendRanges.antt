@@ -1,14 +1,13 @@
 -- What is open in a buffer, by what its sets have; and that no number is forgotten.
-use Rattle.net_receiver.proofs.Words.{common_steps}
-use Rattle.net_receiver.proofs.Words.{ℕ, ◌≡◌, ◌<◌, Bool, true, false, ◌&&◌, ◌||◌, List, [], ◌∷◌, IsTrue, arith, refl}
-use Rattle.net_receiver.proofs.Words.{not, nat_lt, ◌-◌, ◌≤◌, ◌+◌, ◌∙◌, ◌^◌, sym, subst, ap, min, max, either, cases_lt, both_ways, front, Positions}
-use Rattle.net_receiver.proofs.Words.{with_range, nothing, zero, suc}
+use Rattle.net_receiver.proofs.Words.{common_steps, ℕ, ◌≡◌, ◌<◌, Bool, true, false, ◌&&◌, ◌||◌, List, [], ◌∷◌, IsTrue}
+use Rattle.net_receiver.proofs.Words.{arith, refl, not, nat_lt, ◌-◌, ◌≤◌, ◌+◌, ◌∙◌, ◌^◌, sym, subst, ap, min, max}
+use Rattle.net_receiver.proofs.Words.{either, cases_lt, both_ways, front, Positions, with_range, nothing, zero, suc}
+use Rattle.net_receiver.proofs.Words.{first_missing-misses, first_missing-has, first_missing-le, contains-with_range}
+use Rattle.net_receiver.proofs.Words.{contains-nothing, contains, nat_tests}
 use Rattle.net_assembler.specs.Positions.{missing_count}
 use Rattle.std.specs.Int.{from_bool}
 use Rattle.net_receiver.specs.Scoreboards.{Forgets, IsReport}
 use Rattle.std.specs.Prelude.{IsFalse, ◌≢◌}
-use Rattle.net_receiver.proofs.Words.{first_missing-misses, first_missing-has, first_missing-le, contains-with_range}
-use Rattle.net_receiver.proofs.Words.{contains-nothing, contains, nat_tests}
 use Rattle.net_receiver.proofs.Scoreboards.{front_misses, front_has}
 use Rattle.net_assembler.proofs.Sets.{front-with_range}
 use Rattle.net_receiver.specs.Finite.{no_end}

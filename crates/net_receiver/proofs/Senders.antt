@@ -1,26 +1,23 @@
 -- What a sender lends and has sent, the laws of one whose stream ends, and what a receiver reads of it.
-use Rattle.net_receiver.proofs.Words.{common_steps}
+use Rattle.net_receiver.proofs.Words.{common_steps, ◌≡◌, ℕ, ◌+◌, ◌-◌, ◌<◌, ◌≤◌, List, [], length, take, drop, ◌++◌, ◌∙◌}
+use Rattle.net_receiver.proofs.Words.{arith, sym, ap, min, max, length-append, length-drop, Bool, true, false, cond}
+use Rattle.net_receiver.proofs.Words.{◌∷◌, nat_eq, nat_le, refl, subst, append_assoc, append-nil, All, ⊎_elim, cases_lt}
+use Rattle.net_receiver.proofs.Words.{cond_both, and_parts, cond-false, nat_tests, drop_all, drop-drop, nil_from_length}
+use Rattle.net_receiver.proofs.Words.{MatchesStream, MatchesWhatIsThere, sender_state, Sends, end_of, contiguous_end}
+use Rattle.net_receiver.proofs.Words.{with_written, sender_from, MatchesLonger, FiniteSenderState, first_number}
+use Rattle.net_receiver.proofs.Words.{finite_room, finite_sender_of, with_bytes, open_room, acknowledged_below}
+use Rattle.net_receiver.proofs.Words.{MatchesFinite, next_position, fresh_finite, acknowledged, fresh_finite_sender}
+use Rattle.net_receiver.proofs.Words.{FiniteCommand, Arrives, Reads, CommandMatches, finite_after_commands, from_bool}
+use Rattle.net_receiver.proofs.Words.{queue, ring_at, length-queue, FiniteSenderHead, All-head, All-tail, All-weaker}
+use Rattle.net_receiver.proofs.Words.{map}
 use Rattle.std.proofs.Common.{length-take, replicate}
 use Rattle.std.proofs.lemmas.Bool.{leb-true, eqb-true}
 use Rattle.net_assembler.proofs.Sets.{either}
-use Rattle.std.proofs.lemmas.List.{drop-append-le}
-use Rattle.std.proofs.lemmas.List.{length-replicate}
-use Rattle.net_receiver.specs.{numbers_end, has_end_at, accepts}
-use Rattle.net_receiver.specs.{SenderCommand, Writes, Closes, Marks, Acknowledges, written_of}
-use Rattle.net_receiver.specs.{sender_after_command, sender_after_commands, bytes_written, IsLent, IsSoundSent}
-use Rattle.net_receiver.specs.{FreshSentIsSound, SoundSentStays, ClosedStays, LentIsOfStream, LendsAt}
+use Rattle.std.proofs.lemmas.List.{drop-append-le, length-replicate}
+use Rattle.net_receiver.specs.{numbers_end, has_end_at, accepts, SenderCommand, Writes, Closes, Marks, Acknowledges}
+use Rattle.net_receiver.specs.{written_of, sender_after_command, sender_after_commands, bytes_written, IsLent}
+use Rattle.net_receiver.specs.{IsSoundSent, FreshSentIsSound, SoundSentStays, ClosedStays, LentIsOfStream, LendsAt}
 use Rattle.net_receiver.specs.{IsSoundFiniteSender, QueueFromGreatest, greatest_within}
-use Rattle.net_receiver.proofs.Words.{◌≡◌, ℕ, ◌+◌, ◌-◌, ◌<◌, ◌≤◌, List, [], length, take, drop, ◌++◌, ◌∙◌}
-use Rattle.net_receiver.proofs.Words.{arith, sym, ap, min, max, length-append, length-drop, Bool, true, false, cond}
-use Rattle.net_receiver.proofs.Words.{◌∷◌, nat_eq, nat_le, refl, subst, append_assoc, append-nil, All, ⊎_elim}
-use Rattle.net_receiver.proofs.Words.{cases_lt, cond_both, and_parts, cond-false, nat_tests, drop_all, drop-drop}
-use Rattle.net_receiver.proofs.Words.{nil_from_length, MatchesStream, MatchesWhatIsThere, sender_state, Sends, end_of}
-use Rattle.net_receiver.proofs.Words.{contiguous_end, with_written, sender_from, MatchesLonger}
-use Rattle.net_receiver.proofs.Words.{FiniteSenderState, first_number, finite_room, finite_sender_of, with_bytes}
-use Rattle.net_receiver.proofs.Words.{open_room, acknowledged_below, MatchesFinite, next_position, fresh_finite}
-use Rattle.net_receiver.proofs.Words.{acknowledged, fresh_finite_sender, FiniteCommand, Arrives, Reads, CommandMatches}
-use Rattle.net_receiver.proofs.Words.{finite_after_commands, from_bool, queue, ring_at, length-queue, FiniteSenderHead}
-use Rattle.net_receiver.proofs.Words.{All-head, All-tail, All-weaker, map}
 use Rattle.net_receiver.specs.SenderState.{SenderState}
 use Rattle.std.specs.Prelude.{IsTrue, IsFalse}
 use Rattle.net_ring.specs.RingHead.{IsSound, place}

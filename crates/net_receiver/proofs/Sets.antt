@@ -3,22 +3,20 @@ use Rattle.std.proofs.Common.{lt-ltb}
 use Rattle.std.proofs.lemmas.Bool.{leb-true}
 use Rattle.net_assembler.proofs.Sets.{contains-set_of_list, runs-shift_up}
 use Rattle.std.proofs.lemmas.List.FromFn.{take-map-range_with_len}
-use Rattle.net_receiver.specs.{byte_at}
-use Rattle.net_receiver.specs.{with_bytes_at}
+use Rattle.net_receiver.specs.{byte_at, with_bytes_at}
 use Rattle.std.specs.Ordering.{eq_by_cmp}
 use Rattle.net_receiver.proofs.Words.{◌≡◌, ℕ, ◌<◌, ◌≤◌, Bool, true, false, zero, suc, ◌+◌, ◌-◌, min, ◌∷◌, ◌++◌, map}
 use Rattle.net_receiver.proofs.Words.{take, drop, refl, sym, ap, ◌∙◌, arith, cond, List, [], Option, Some, None}
-use Rattle.net_receiver.proofs.Words.{is_some, slice_get, nat_lt, le-leb, ◌&&◌, ◌||◌, nat_le, ◌==◌, length-append}
-use Rattle.net_receiver.proofs.Words.{All, subst, cond-true, cond-false, lt-leb, ltb-true, and_parts, and_from}
-use Rattle.net_receiver.proofs.Words.{or_right, Positions, contains, first_missing, runs, maximal_runs, shift_up}
-use Rattle.net_receiver.proofs.Words.{runs_shifted_up, IsMaximalRun, first_missing-misses, first_missing-has}
-use Rattle.net_receiver.proofs.Words.{first_missing-le, has, same_positions, contains-shift_up}
-use Rattle.net_receiver.proofs.Words.{range_with_len, list_any, take_min, length-map-range_with_len, option_or}
-use Rattle.net_receiver.proofs.Words.{nat_tests, slice_get_cases, none-some, gets, common_steps, Piece, end}
-use Rattle.net_receiver.proofs.Words.{piece_byte_at, piece_within, is_covered, HeldBytes, domain, first_lacking}
-use Rattle.net_receiver.proofs.Words.{held_with_piece, receiver_with_piece, next_position, EndBelow, ReceiverState}
-use Rattle.net_receiver.proofs.Words.{nat_cmp, nat_cmp_total, unsigned_tied, All-tail, All-weaker}
-use Rattle.net_receiver.proofs.Words.{MaximalRunsOfEverySet}
+use Rattle.net_receiver.proofs.Words.{is_some, slice_get, nat_lt, le-leb, ◌&&◌, ◌||◌, nat_le, ◌==◌, length-append, All}
+use Rattle.net_receiver.proofs.Words.{subst, cond-true, cond-false, lt-leb, ltb-true, and_parts, and_from, or_right}
+use Rattle.net_receiver.proofs.Words.{Positions, contains, first_missing, runs, maximal_runs, shift_up, runs_shifted_up}
+use Rattle.net_receiver.proofs.Words.{IsMaximalRun, first_missing-misses, first_missing-has, first_missing-le, has}
+use Rattle.net_receiver.proofs.Words.{same_positions, contains-shift_up, range_with_len, list_any, take_min}
+use Rattle.net_receiver.proofs.Words.{length-map-range_with_len, option_or, nat_tests, slice_get_cases, none-some, gets}
+use Rattle.net_receiver.proofs.Words.{common_steps, Piece, end, piece_byte_at, piece_within, is_covered, HeldBytes}
+use Rattle.net_receiver.proofs.Words.{domain, first_lacking, held_with_piece, receiver_with_piece, next_position}
+use Rattle.net_receiver.proofs.Words.{EndBelow, ReceiverState, nat_cmp, nat_cmp_total, unsigned_tied, All-tail}
+use Rattle.net_receiver.proofs.Words.{All-weaker, MaximalRunsOfEverySet}
 use Rattle.std.specs.FinMap as fin
 
 -- ---- The first place at which a test is false.

@@ -1,20 +1,26 @@
 -- What a new part makes of a head and runs, and of the ranges that they store.
-use Rattle.net_receiver.proofs.Words.{common_steps}
+use Rattle.net_receiver.proofs.Words.{common_steps, sum_by-cons, lies_in, All-head, All-tail, cond-true, cond-false}
+use Rattle.net_receiver.proofs.Words.{front, [], ◌∷◌, piece, is_some, slice_get, ◌≡◌, ◌↔◌, ℕ, ◌+◌, ◌-◌, ◌<◌, ◌≤◌, min}
+use Rattle.net_receiver.proofs.Words.{max, Bool, true, false, refl, sym, ap, ◌∙◌, arith, List, length, Option, Some}
+use Rattle.net_receiver.proofs.Words.{None, ⊎_elim, or_cases, cases_lt, and_parts, or_left, or_right, leb-true}
+use Rattle.net_receiver.proofs.Words.{ltb-true, le-leb, lt-ltb, ◌&&◌, ◌||◌, nat_le, nat_lt, cond, false≢true, Positions}
+use Rattle.net_receiver.proofs.Words.{contains, nothing, with_range, first_missing, first_missing-is, first_missing-has}
+use Rattle.net_receiver.proofs.Words.{first_missing-le, first_missing-misses, runs, shift_up, shift_down}
+use Rattle.net_receiver.proofs.Words.{same_positions, contains-shift_up, contains-shift_down, contains-with_range}
+use Rattle.net_receiver.proofs.Words.{contains-nothing, set_of, HasSoundRuns, HasSoundFinite, no_end, Result, Ok, Err}
+use Rattle.net_receiver.proofs.Words.{is_ok, AssemblerHead, makes_too_many_runs, no_runs, runs_of}
 use Rattle.net_assembler.proofs.Sets.{runs-shift_up}
 use Rattle.std.specs.Int.{from_bool}
-use Rattle.net_receiver.proofs.Words.{sum_by-cons}
 use Rattle.net_receiver.specs.StreamRanges.{RangesCall, Keeps, Reads, Grows, GrowsRuns, Goes, is_in_part, byte_in}
 use Rattle.net_receiver.specs.StreamRanges.{has_arrived, IsOfStream, EachOnce, NotesAreOfStream, AllArrives}
+use Rattle.net_receiver.specs.StreamRanges.{RangesState, HasSoundRanges, ranges_of, fresh_ranges, with_new, with_part}
+use Rattle.net_receiver.specs.StreamRanges.{with_end, positions_from, limit_of_ranges, IsNewPart, HasNoRoomFor, KeepsNew}
+use Rattle.net_receiver.specs.StreamRanges.{ranges_can_end, next_of_ranges}
 use Rattle.net_receiver.proofs.Sets.{piece_some}
-use Rattle.net_receiver.proofs.Words.{lies_in, All-head, All-tail, cond-true, cond-false}
-use Rattle.net_receiver.proofs.Words.{front, [], ◌∷◌, piece, is_some, slice_get}
 use Rattle.net_receiver.specs.Finite.{can_end_by}
 use Rattle.net_receiver.specs.FiniteHead.{end_of, end_with, finite_at}
 use Rattle.net_receiver.specs.Head.{HasSoundHeld, held_at, next_at, top_at}
 use Rattle.net_receiver.specs.NewHeads.{finite_receiver_head, receiver_head}
-use Rattle.net_receiver.specs.StreamRanges.{RangesState, HasSoundRanges, ranges_of, fresh_ranges, with_new, with_part}
-use Rattle.net_receiver.specs.StreamRanges.{with_end, positions_from, limit_of_ranges, IsNewPart, HasNoRoomFor, KeepsNew}
-use Rattle.net_receiver.specs.StreamRanges.{ranges_can_end, next_of_ranges}
 use Rattle.net_assembler.specs.Assembler.{MakesTooManyRuns}
 use Rattle.net_receiver.specs.declared.kept.FiniteError.{FiniteError}
 use Rattle.net_receiver.specs.declared.kept.FiniteError.TheVariants as errors
@@ -24,14 +30,6 @@ use Rattle.net_receiver.specs.declared.finite_receiver_head.FiniteReceiverHead.{
 use Rattle.net_receiver.proofs.FiniteReceivers.{offsets_below, below_offsets}
 use Rattle.net_receiver.proofs.Places.{IsFrontRemoved, front_removed}
 use Rattle.std.proofs.lemmas.Bool.Decides.{nat_tests}
-use Rattle.net_receiver.proofs.Words.{◌≡◌, ◌↔◌, ℕ, ◌+◌, ◌-◌, ◌<◌, ◌≤◌, min, max, Bool, true, false, refl, sym, ap, ◌∙◌}
-use Rattle.net_receiver.proofs.Words.{arith, List, length, Option, Some, None, ⊎_elim, or_cases, cases_lt, and_parts}
-use Rattle.net_receiver.proofs.Words.{or_left, or_right, leb-true, ltb-true, le-leb, lt-ltb, ◌&&◌, ◌||◌, nat_le}
-use Rattle.net_receiver.proofs.Words.{nat_lt, cond, false≢true, Positions, contains, nothing, with_range, first_missing}
-use Rattle.net_receiver.proofs.Words.{first_missing-is, first_missing-has, first_missing-le, first_missing-misses, runs}
-use Rattle.net_receiver.proofs.Words.{shift_up, shift_down, same_positions, contains-shift_up, contains-shift_down}
-use Rattle.net_receiver.proofs.Words.{contains-with_range, contains-nothing, set_of, HasSoundRuns, HasSoundFinite, no_end}
-use Rattle.net_receiver.proofs.Words.{Result, Ok, Err, is_ok, AssemblerHead, makes_too_many_runs, no_runs, runs_of}
 
 pub sound_ranges : {h : FiniteReceiverHead} {c : ℕ} {rs : List (ℕ × ℕ)} → HasSoundFinite h c rs → HasSoundRanges h c rs
 sound_ranges s = record {

@@ -1,38 +1,29 @@
 -- From what a run did to what is stored to the theorems on schedules, and what is true of every receiver.
-use Rattle.net_receiver.proofs.Words.{common_steps}
-use Rattle.std.proofs.Common.{flat_map}
-use Rattle.std.proofs.Common.{replicate}
-use Rattle.std.proofs.Common.{eq-eqb}
+use Rattle.net_receiver.proofs.Words.{common_steps, ◌≡◌, ℕ, ◌+◌, ◌-◌, ◌≤◌, ◌<◌, false, nat_le, None, is_some, List, []}
+use Rattle.net_receiver.proofs.Words.{map, ◌++◌, length, take, All, refl, sym, ap, subst, ◌∙◌, arith, ⊎_elim, le_refl}
+use Rattle.net_receiver.proofs.Words.{◌⊎◌, inl, inr, suc, Bool, true, cond, ◌∷◌, drop, get_or, Option, Some, Result, Ok}
+use Rattle.net_receiver.proofs.Words.{Err, leb-true, take_all, length-take, length-drop, get_or-take, get_or-drop, zero}
+use Rattle.net_receiver.proofs.Words.{◌==◌, ◌&&◌, ◌||◌, unwrap_or, slice_get, nat_lt, eqb-true, not, nat_eq, take-add}
+use Rattle.net_receiver.proofs.Words.{filter, le_trans, range_with_len, nat_cmp, both_ways, cases_lt, cond-false}
+use Rattle.net_receiver.proofs.Words.{and_right, and_parts, cond-true, cond_both, or_left, or_right, false_from_ne_true}
+use Rattle.net_receiver.proofs.Words.{ltb-true, ltb-false, Positions, contains, nothing, maximal_runs, lies_in}
+use Rattle.net_receiver.proofs.Words.{IsMaximalRun, positions, with_range, contains-nothing, same_positions, has}
+use Rattle.net_receiver.proofs.Words.{contains-positions, contains-with_range, positions_rise, rising_unique}
+use Rattle.net_receiver.proofs.Words.{CommandValue, ReplyValue, byte, queued, missing, is_held, state_from}
+use Rattle.net_receiver.proofs.Words.{SegmentReply, step, held_bytes, Setting, KeptState, fresh_kept, bytes_read}
+use Rattle.net_receiver.proofs.Words.{IsAccepted, HasRoom, fresh_receiver, setting, Refines, IsSound, domain}
+use Rattle.net_receiver.proofs.Words.{receiver_after_commands, receiver_replies, receiver_after_command, receiver_reply}
+use Rattle.net_receiver.proofs.Words.{HeldBytes, next_position, first_three, with_sack, numbers, state_after, Executes}
+use Rattle.net_receiver.proofs.Words.{Piece, piece, end, piece_byte_at, is_covered, piece_within, Segment, Read, Show}
+use Rattle.net_receiver.proofs.Words.{receiver_with_piece, ReceiverState, AllPairs, count_by, ⊤, All-take, sum_by-cons}
+use Rattle.net_receiver.proofs.Words.{TooManyHolesError, Kept, KeptBytes, take_min, length-replicate, take-take}
+use Rattle.net_receiver.proofs.Words.{option_or, slice_get_within, nat_tests, runs-nothing}
+use Rattle.std.proofs.Common.{flat_map, replicate, eq-eqb}
 use Rattle.std.proofs.lemmas.Bool.{or_parts, or_from}
 use Rattle.net_assembler.proofs.Runs.{are_maximal_runs}
-use Rattle.net_assembler.specs.Positions.{runs}
-use Rattle.net_assembler.specs.Positions.{run_starts, begins_run}
-use Rattle.net_receiver.specs.{byte_at, queue}
-use Rattle.net_receiver.specs.{replies, replies_from}
-use Rattle.net_receiver.specs.{ExecutesFor}
-use Rattle.net_receiver.specs.{SoundRepresents, ListsHeldRuns, FreshRefines, TellsFresh}
-use Rattle.net_receiver.specs.{FreshIsSound, SoundStays}
-use Rattle.net_receiver.proofs.Words.{◌≡◌, ℕ, ◌+◌, ◌-◌, ◌≤◌, ◌<◌, false, nat_le, None, is_some, List, [], map}
-use Rattle.net_receiver.proofs.Words.{◌++◌, length, take, All, refl, sym, ap, subst, ◌∙◌, arith, ⊎_elim, le_refl, ◌⊎◌}
-use Rattle.net_receiver.proofs.Words.{inl, inr, suc, Bool, true, cond, ◌∷◌, drop, get_or, Option, Some, Result, Ok}
-use Rattle.net_receiver.proofs.Words.{Err, leb-true, take_all, length-take, length-drop, get_or-take, get_or-drop}
-use Rattle.net_receiver.proofs.Words.{zero, ◌==◌, ◌&&◌, ◌||◌, unwrap_or, slice_get, nat_lt, eqb-true, not, nat_eq}
-use Rattle.net_receiver.proofs.Words.{take-add, filter, le_trans, range_with_len, nat_cmp, both_ways, cases_lt}
-use Rattle.net_receiver.proofs.Words.{cond-false, and_right, and_parts, cond-true, cond_both, or_left, or_right}
-use Rattle.net_receiver.proofs.Words.{false_from_ne_true, ltb-true, ltb-false, Positions, contains, nothing}
-use Rattle.net_receiver.proofs.Words.{maximal_runs, lies_in, IsMaximalRun, positions, with_range, contains-nothing}
-use Rattle.net_receiver.proofs.Words.{same_positions, has, contains-positions, contains-with_range, positions_rise}
-use Rattle.net_receiver.proofs.Words.{rising_unique, CommandValue, ReplyValue, byte, queued, missing, is_held}
-use Rattle.net_receiver.proofs.Words.{state_from, SegmentReply, step, held_bytes, Setting}
-use Rattle.net_receiver.proofs.Words.{KeptState, fresh_kept, bytes_read, IsAccepted, HasRoom, fresh_receiver, setting}
-use Rattle.net_receiver.proofs.Words.{Refines, IsSound, domain, receiver_after_commands, receiver_replies}
-use Rattle.net_receiver.proofs.Words.{receiver_after_command, receiver_reply, HeldBytes, next_position, first_three}
-use Rattle.net_receiver.proofs.Words.{with_sack, numbers, state_after, Executes, Piece}
-use Rattle.net_receiver.proofs.Words.{piece, end, piece_byte_at, is_covered, piece_within, Segment, Read, Show}
-use Rattle.net_receiver.proofs.Words.{receiver_with_piece, ReceiverState, AllPairs, count_by, ⊤, All-take}
-use Rattle.net_receiver.proofs.Words.{sum_by-cons, TooManyHolesError, Kept, KeptBytes}
-use Rattle.net_receiver.proofs.Words.{take_min, length-replicate, take-take, option_or, slice_get_within, nat_tests}
-use Rattle.net_receiver.proofs.Words.{runs-nothing}
+use Rattle.net_assembler.specs.Positions.{runs, run_starts, begins_run}
+use Rattle.net_receiver.specs.{byte_at, queue, replies, replies_from, ExecutesFor, SoundRepresents, ListsHeldRuns}
+use Rattle.net_receiver.specs.{FreshRefines, TellsFresh, FreshIsSound, SoundStays}
 use Rattle.net_receiver.proofs.Schedules.{queued_covered, missing_is, none_of, schedule, settings_kept}
 use Rattle.net_receiver.proofs.Schedules.{after_all_append, replies_append, stream, recover, follows_prefix}
 use Rattle.net_receiver.proofs.Schedules.{has-filter, filter_rises, verdict_by}
@@ -44,8 +35,8 @@ use Rattle.std.specs.Prelude.{is_ok}
 use Rattle.std.proofs.lemmas.List.Sums.{sum_by-take-drop}
 use Rattle.net_receiver.specs.Execution.{runs_of_sack, ListsRuns, ReplayCall, Replays, ArePrefixes, Composes}
 use Rattle.net_receiver.specs.HeadlineLaws.{Calls, CallsReply, CallsGoOn, without_runs, KeepReplies, RepliesAre}
-use Rattle.std.specs.Cmp.Lexicographic.{pointwise, bytes_decides}
 use Rattle.net_receiver.specs.HeadlineLaws.{WorkedSchedule, WorkedRefusal}
+use Rattle.std.specs.Cmp.Lexicographic.{pointwise, bytes_decides}
 use Rattle.net_receiver.proofs.Heads.{sound_joined, sound_read}
 use Rattle.std.specs.FinMap as fin
 

@@ -24,8 +24,7 @@ use Rattle.net_assembler.specs.Positions.{contains, Positions, lies_in, IsMaxima
 use Rattle.net_receiver.specs.Headline.{CommandValue, Segment, Read, Show, ReplyValue, SegmentReply, ReadReply}
 use Rattle.net_receiver.specs.Headline.{ShowReply, is_covered, missing, queue, is_held, held_runs, replies_from}
 use Rattle.net_receiver.specs.Headline.{state_from}
-use Rattle.net_receiver.specs.Schedule.{Setting, KeptState, fresh_kept, bytes_read, Agrees, Follows, EndsBy}
-use Rattle.net_receiver.specs.Schedule.{IsAccepted}
+use Rattle.net_receiver.specs.Schedule.{Setting, KeptState, fresh_kept, bytes_read, Agrees, Follows, EndsBy, IsAccepted}
 use Rattle.net_receiver.specs.ReceiverState.{ReceiverState, domain, next_position, fresh_receiver, setting}
 use Rattle.net_receiver.specs.ReceiverState.{receiver_after_commands, receiver_replies, Refines, IsSound, Verdict}
 use Rattle.net_receiver.specs.ReceiverState.{state_after, segment_result, first_three}

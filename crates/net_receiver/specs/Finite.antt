@@ -36,13 +36,11 @@
 -- The others are laws.
 use Rattle.std.specs.Prelude.{◌≡◌, ℕ, ◌+◌, ◌-◌, ◌<◌, ◌≤◌, ◌^◌, max, min, Bool, ◌&&◌, not, if◌then◌else◌, List, length}
 use Rattle.std.specs.Prelude.{take, nat_lt, nat_le, nat_eq, is_ok, Result, Ok, Err, refl, true, false, IsOk, IsTrue}
-use Rattle.std.specs.Prelude.{IsFalse}
-use Rattle.std.specs.Prelude.{[], ◌∷◌, ◌++◌, All, ◌⊎◌, drop, map, None}
+use Rattle.std.specs.Prelude.{IsFalse, [], ◌∷◌, ◌++◌, All, ◌⊎◌, drop, map, None}
 use Rattle.std.specs.Coded.{Coded, code_by, coded×, coded_ℕ}
 use Rattle.net_receiver.specs.ReceiverState.{receiver_code, Segment, verdict, numbers, ReceiverState, domain}
 use Rattle.net_receiver.specs.ReceiverState.{fresh_receiver, next_position, limit_of, receiver_after_command}
-use Rattle.net_receiver.specs.ReceiverState.{receiver_after_read, IsSound, Refines, CommandValue, Read}
-use Rattle.net_receiver.specs.ReceiverState.{setting}
+use Rattle.net_receiver.specs.ReceiverState.{receiver_after_read, IsSound, Refines, CommandValue, Read, setting}
 use Rattle.net_assembler.specs.declared.assembler.error.TooManyHolesError.{TooManyHolesError}
 use Rattle.net_assembler.specs.Positions.{bound_of, positions}
 use Rattle.net_receiver.specs.declared.kept.FiniteError.{FiniteError}

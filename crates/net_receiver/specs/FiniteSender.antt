@@ -30,9 +30,8 @@ use Rattle.std.specs.Prelude.{nat_eq, nat_le, ◌∷◌, ◌++◌, length, take,
 use Rattle.net_receiver.specs.SenderState.{SenderState, sender_state, end_of, room_of, with_written}
 use Rattle.net_receiver.specs.SenderState.{moved_sender, sender_from, sender_of, IsSoundHead, contiguous_end, Sends}
 use Rattle.net_receiver.specs.declared.finite_sender_head.FiniteSenderHead.{FiniteSenderHead}
-use Rattle.net_receiver.specs.Finite.{no_end, MatchesFinite, fresh_finite, acknowledged, is_complete}
-use Rattle.net_receiver.specs.Finite.{has_read_all, FiniteCommand, Arrives, Reads}
-use Rattle.net_receiver.specs.Finite.{finite_after_commands, bytes_taken}
+use Rattle.net_receiver.specs.Finite.{no_end, MatchesFinite, fresh_finite, acknowledged, is_complete, has_read_all}
+use Rattle.net_receiver.specs.Finite.{FiniteCommand, Arrives, Reads, finite_after_commands, bytes_taken}
 use Rattle.net_ring.specs.RingHead.{queued_index}
 use Rattle.net_receiver.specs.ReceiverState.{next_position}
 

@@ -16,13 +16,11 @@ use Rattle.std.specs.Prelude.{Option, Some, None, ◌↔◌, ◌⊎◌, ◌≤�
 use Rattle.net_assembler.specs.declared.assembler.error.TooManyHolesError.{TooManyHolesError}
 use Rattle.net_receiver.specs.declared.kept.Kept.{Kept}
 use Rattle.net_receiver.specs.declared.kept.KeptBytes.{KeptBytes}
-use Rattle.net_receiver.specs.Headline.{Setting, CommandValue, Segment, Show, ReplyValue, SegmentReply}
-use Rattle.net_receiver.specs.Headline.{ShowReply, queue, replies, state, Read, ReadReply, Piece, byte_at, missing}
-use Rattle.net_receiver.specs.Headline.{held_runs}
+use Rattle.net_receiver.specs.Headline.{Setting, CommandValue, Segment, Show, ReplyValue, SegmentReply, ShowReply}
+use Rattle.net_receiver.specs.Headline.{queue, replies, state, Read, ReadReply, Piece, byte_at, missing, held_runs}
 use Rattle.net_receiver.specs.Schedule.{piece, end}
-use Rattle.net_receiver.specs.ReceiverState.{numbers, verdict, ReceiverState, fresh_receiver}
-use Rattle.net_receiver.specs.ReceiverState.{receiver_after_command, receiver_reply, next_position}
-use Rattle.net_receiver.specs.ReceiverState.{domain}
+use Rattle.net_receiver.specs.ReceiverState.{numbers, verdict, ReceiverState, fresh_receiver, receiver_after_command}
+use Rattle.net_receiver.specs.ReceiverState.{receiver_reply, next_position, domain}
 use Rattle.net_assembler.specs.Positions.{Positions, contains, maximal_runs, AreMaximalRuns}
 
 -- calls on a receiver, each by its command and its reply: that it replies this, and what it leaves, is what clauses

@@ -45,8 +45,7 @@ use Rattle.net_assembler.specs.declared.assembler.error.TooManyHolesError.{TooMa
 use Rattle.net_receiver.specs.declared.kept.Kept.{Kept}
 use Rattle.net_receiver.specs.declared.kept.KeptBytes.{KeptBytes}
 use Rattle.net_receiver.specs.Headline.{queue, is_held}
-use Rattle.net_receiver.specs.Schedule.{Piece, piece, piece_byte_at, piece_within, byte_at, Setting, KeptState}
-use Rattle.net_receiver.specs.Schedule.{HasRoom}
+use Rattle.net_receiver.specs.Schedule.{Piece, piece, piece_byte_at, piece_within, byte_at, Setting, KeptState, HasRoom}
 use Rattle.std.specs.Coded.{Coded, code_by, coded×, coded_list, coded_ℕ}
 use Rattle.net_ring.specs.Ring.{RingState}
 pub use Rattle.net_receiver.specs.Headline.{CommandValue, Segment, Read, Show, ReplyValue, SegmentReply, ReadReply}

@@ -15,17 +15,16 @@
 --     noted notes cs      notes of bytes, and those of each part that calls returned at its positions
 -- EachOnce, NotesAreOfStream, AllArrives are laws.
 use Rattle.std.specs.Prelude.{◌≡◌, ◌↔◌, ℕ, ◌+◌, ◌-◌, ◌<◌, ◌≤◌, min, max, Bool, ◌||◌, ◌&&◌, nat_lt, nat_le, IsTrue}
-use Rattle.std.specs.Int.{from_bool}
-use Rattle.net_assembler.specs.Positions.{lies_in}
-use Rattle.net_receiver.specs.Schedule.{piece, piece_byte_at}
 use Rattle.std.specs.Prelude.{[], ◌∷◌, All, IsFalse, count_by, slice_get, false}
 use Rattle.std.specs.Prelude.{List, length, refl, Option, Some, None, Result, Ok, Err, IfOk, OnErr, if◌then◌else◌}
+use Rattle.std.specs.Int.{from_bool}
+use Rattle.net_assembler.specs.Positions.{lies_in, Positions, contains, nothing, positions, bound_of, first_missing}
+use Rattle.net_assembler.specs.Positions.{with_range, shift_up, shift_down}
+use Rattle.net_receiver.specs.Schedule.{piece, piece_byte_at}
 use Rattle.std.specs.Coded.{Coded, code_by, coded×, coded_ℕ}
 use Rattle.std.specs.FinSet as set
 use Rattle.std.specs.declared.ops.Range.{Range}
 use Rattle.net_assembler.specs.Assembler.{MakesTooManyRuns}
-use Rattle.net_assembler.specs.Positions.{Positions, contains, nothing, positions, bound_of, first_missing, with_range}
-use Rattle.net_assembler.specs.Positions.{shift_up, shift_down}
 use Rattle.net_assembler.specs.RunLists.{set_of}
 use Rattle.net_receiver.specs.ReceiverState.{pair_of}
 use Rattle.net_receiver.specs.Head.{HasSoundHeld, held_at, top_at}

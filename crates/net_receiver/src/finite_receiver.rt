@@ -14,10 +14,9 @@
 ghost use Rattle.std.specs.Prelude.{◌≡◌, ℕ, ◌+◌, ◌-◌, ◌<◌, ◌≤◌, ◌^◌, min, List, length, ◌++◌, IsTrue, Some, None};
 ghost use Rattle.std.specs.Prelude.{take, drop, max, IsOk};
 ghost use Rattle.net_receiver.specs.{no_end, fresh_finite, can_end, bytes_end, finite_after, finite_result};
-ghost use Rattle.net_receiver.specs.{finite_after_read, is_complete, acknowledged, has_read_all};
-ghost use Rattle.net_receiver.specs.{IsSoundEnd, finite_of, HasSoundFinite, new_count, MatchesFinite, ReceivesFinite};
-ghost use Rattle.net_receiver.specs.{end_with, contiguous_count, first_part, limit_of, next_position};
-ghost use Rattle.net_receiver.specs.{IsSound, ends_in_order};
+ghost use Rattle.net_receiver.specs.{finite_after_read, is_complete, acknowledged, has_read_all, IsSoundEnd, finite_of};
+ghost use Rattle.net_receiver.specs.{HasSoundFinite, new_count, MatchesFinite, ReceivesFinite, end_with};
+ghost use Rattle.net_receiver.specs.{contiguous_count, first_part, limit_of, next_position, IsSound, ends_in_order};
 ghost use Rattle.net_receiver.specs.PartsOf.{finite_parts};
 ghost use Rattle.std.specs.Fn.{FnOnceTakesAt, FnOnceReturnsAt};
 ghost use Rattle.net_assembler.specs.RunLists.{IsCanonical};

@@ -1,15 +1,13 @@
 //! A receiver in parts: a head of numbers, a storage, and runs that are kept elsewhere.
 #![tactic(auto, using(crate::proofs::OneStream::heads))]
 
-ghost use Rattle.std.specs.Prelude.{◌≡◌, ◌↔◌, ℕ, ◌+◌, ◌-◌, ◌<◌, ◌≤◌, ◌^◌, ◌%◌, List, length, All};
-ghost use Rattle.std.specs.Prelude.{IsTrue, IfOk, OnErr, Some, None, min, ◌++◌, take, drop};
-ghost use Rattle.std.specs.Prelude.{◌∷◌, ◌⊎◌};
+ghost use Rattle.std.specs.Prelude.{◌≡◌, ◌↔◌, ℕ, ◌+◌, ◌-◌, ◌<◌, ◌≤◌, ◌^◌, ◌%◌, List, length, All, IsTrue, IfOk, OnErr};
+ghost use Rattle.std.specs.Prelude.{Some, None, min, ◌++◌, take, drop, ◌∷◌, ◌⊎◌};
 ghost use Rattle.net_assembler.specs.Positions.{contains, maximal_runs, runs as run_count};
 ghost use Rattle.net_assembler.specs.RunLists.{HasSoundRuns, IsCanonical, set_of};
 ghost use Rattle.net_receiver.specs.Schedule.{piece};
-ghost use Rattle.net_receiver.specs.ReceiverState.{verdict, state_after, numbers, first_three};
-ghost use Rattle.net_receiver.specs.ReceiverState.{fresh_receiver, domain, IsSameState, receiver_after_read};
-ghost use Rattle.net_receiver.specs.ReceiverState.{count_between};
+ghost use Rattle.net_receiver.specs.ReceiverState.{verdict, state_after, numbers, first_three, fresh_receiver, domain};
+ghost use Rattle.net_receiver.specs.ReceiverState.{IsSameState, receiver_after_read, count_between};
 ghost use Rattle.net_receiver.specs.Finite.{queue_only};
 ghost use Rattle.net_receiver.specs.NewHeads.{receiver_head};
 ghost use Rattle.net_receiver.specs.Duplicates.{came, TellsPart, TellsFirst};

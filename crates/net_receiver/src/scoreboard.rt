@@ -2,8 +2,7 @@
 #![tactic(auto, using(crate::proofs::Scoreboards::scoreboards))]
 
 ghost use Rattle.std.specs.Prelude.{◌≡◌, ◌↔◌, ◌-◌, ◌<◌, ◌≤◌, length, Err, OnOk, OnErr};
-ghost use Rattle.net_assembler.specs.Positions.{contains, front, maximal_runs, missing_count};
-ghost use Rattle.net_assembler.specs.Positions.{nothing, with_range};
+ghost use Rattle.net_assembler.specs.Positions.{contains, front, maximal_runs, missing_count, nothing, with_range};
 ghost use Rattle.net_assembler.specs.RunLists.{IsCanonical};
 ghost use Rattle.net_receiver.specs.{IsHole, IsLossBound, HasNoRoom, IsEnd, IsReport, IsSoundBoard, beyond, pair_of};
 ghost use Rattle.net_receiver.specs.{IsSoundScoreboard, reported_by};

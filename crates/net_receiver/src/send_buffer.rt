@@ -1,9 +1,8 @@
 //! What a stream that ends sends, and sends again: its bytes, in a ring, and their numbers, as `SendRanges` knows them.
 #![tactic(auto, using(crate::proofs::SendRanges::buffers))]
 
-ghost use Rattle.std.specs.Prelude.{◌≡◌, ◌↔◌, ◌-◌, ◌+◌, ◌<◌, ◌≤◌, ◌&&◌, ◌++◌, ◌==◌, ℕ, None, IsTrue, IsFalse};
-ghost use Rattle.std.specs.Prelude.{IfSome, IsErr, IfOk, min, max, length, not, nat_le, nat_lt, true};
-ghost use Rattle.std.specs.Prelude.{if◌then◌else◌};
+ghost use Rattle.std.specs.Prelude.{◌≡◌, ◌↔◌, ◌-◌, ◌+◌, ◌<◌, ◌≤◌, ◌&&◌, ◌++◌, ◌==◌, ℕ, None, IsTrue, IsFalse, IfSome};
+ghost use Rattle.std.specs.Prelude.{IsErr, IfOk, min, max, length, not, nat_le, nat_lt, true, if◌then◌else◌};
 ghost use Rattle.net_assembler.specs.Positions.{contains, front, missing_count, with_range};
 ghost use Rattle.net_receiver.specs.FiniteSender.{sender_after_command, Writes, Closes, Marks, Acknowledges};
 ghost use Rattle.net_receiver.specs.FiniteSender.{finite_room, first_number, moved_finite_sender};

@@ -15,9 +15,8 @@
 // never refused, and a loop over `next` ends.
 #![tactic(auto, using(crate::proofs::SendRanges::buffers))]
 
-ghost use Rattle.std.specs.Prelude.{◌≡◌, ◌↔◌, ◌-◌, ◌+◌, ◌<◌, ◌≤◌, ◌&&◌, ◌||◌, ◌==◌, ℕ, None, IsTrue, IsFalse};
-ghost use Rattle.std.specs.Prelude.{IfSome, IsErr, IfOk, min, max, length, not, nat_le, nat_lt, true};
-ghost use Rattle.std.specs.Prelude.{if◌then◌else◌, ◌≢◌};
+ghost use Rattle.std.specs.Prelude.{◌≡◌, ◌↔◌, ◌-◌, ◌+◌, ◌<◌, ◌≤◌, ◌&&◌, ◌||◌, ◌==◌, ℕ, None, IsTrue, IsFalse, IfSome};
+ghost use Rattle.std.specs.Prelude.{IsErr, IfOk, min, max, length, not, nat_le, nat_lt, true, if◌then◌else◌, ◌≢◌};
 ghost use Rattle.net_assembler.specs.Positions.{contains, front, missing_count, with_range};
 ghost use Rattle.net_receiver.specs.Finite.{no_end};
 ghost use Rattle.net_receiver.specs.Scoreboards.{HasNoRoom, IsReport};

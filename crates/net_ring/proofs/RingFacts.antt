@@ -4,7 +4,7 @@
 -- Sets of lemmas on a storage, a read index and a count, which close the goals of heads and of rings.
 use Rattle.std.proofs.Common.{◌≢◌, get_or, ◌≡◌, ℕ, ◌+◌, ◌-◌, ◌<◌, ◌≤◌, ◌⊎◌, List, [], ◌∷◌, ◌++◌, length, take, drop}
 use Rattle.std.proofs.Common.{min, refl, sym, ap, ap₂, ◌∙◌, subst, inl, inr, arith, length-drop, add-zero, nat_lt}
-use Rattle.std.proofs.Common.{if◌then◌else◌, suc, Some, length-take, set, ◌↔◌}
+use Rattle.std.proofs.Common.{if◌then◌else◌, suc, Some, length-take, set, ◌↔◌, rules}
 use Rattle.std.proofs.lemmas.Bool.Decides.{nat_tests}
 use Rattle.std.proofs.lemmas.Bool.{false≢true, cases_lt}
 use Rattle.std.proofs.lemmas.List.{drop-drop, take-take, length-take-le, take-append-drop, take_all, drop_all}
@@ -29,7 +29,6 @@ use Rattle.net_ring.proofs.Rotations.{with_dequeued_parts, take_sum}
 use Rattle.net_ring.specs.declared.head.Span.{Span}
 use Rattle.std.proofs.lemmas.List.Elements.{AllZip-push}
 use Rattle.std.specs.List.{AllZip}
-use Rattle.std.proofs.Common.{rules}
 
 -- what a closure that was lent x at p left there, and gave
 pub returned : {F T R : Type 0} {g : Once F (MutBor T × Unit {0}) (R × (MutBor T × Unit {0}))} {f : F} {x : T} {r : R}

@@ -1,15 +1,13 @@
 -- Elements leave a ring in the order in which they came, over any calls.
 use Rattle.std.proofs.Common.{◌≡◌, ℕ, ◌+◌, ◌-◌, ◌≤◌, List, [], ◌∷◌, ◌++◌, length, take, drop, refl, sym, ap, ap₂, ◌∙◌}
-use Rattle.std.proofs.Common.{subst, inl, arith, append_assoc, length-drop}
+use Rattle.std.proofs.Common.{subst, inl, arith, append_assoc, length-drop, rules}
 use Rattle.std.proofs.lemmas.List.{append-nil, take-take, take_all, places, same_lists}
-use Rattle.std.proofs.Common.{rules}
 use Rattle.net_ring.specs.{overwrite, RingState, IsWellFormed, ring, capacity, window, queue, write_at, storage_index}
-use Rattle.net_ring.specs.{contiguous_window, contiguous_queued, contiguous_queue, spare_index}
-use Rattle.net_ring.specs.{with_elements, with_elements_wrapping, with_enqueued, rewind_if_empty, RingCall, Clear}
-use Rattle.net_ring.specs.{Reset, RewindIfEmpty, EnqueueSlice, EnqueueUnallocated, EnqueueMany}
-use Rattle.net_ring.specs.{EnqueueManyWith, EnqueueOne, EnqueueErr, GetUnallocated, WriteUnallocated, Dequeue}
-use Rattle.net_ring.specs.{DequeueMany, DequeueManyWith, DequeueOne, DequeueErr, Makes, MakesAll}
-use Rattle.net_ring.specs.{log_written, log_after, log_after_all, history}
+use Rattle.net_ring.specs.{contiguous_window, contiguous_queued, contiguous_queue, spare_index, with_elements}
+use Rattle.net_ring.specs.{with_elements_wrapping, with_enqueued, rewind_if_empty, RingCall, Clear, Reset}
+use Rattle.net_ring.specs.{RewindIfEmpty, EnqueueSlice, EnqueueUnallocated, EnqueueMany, EnqueueManyWith, EnqueueOne}
+use Rattle.net_ring.specs.{EnqueueErr, GetUnallocated, WriteUnallocated, Dequeue, DequeueMany, DequeueManyWith}
+use Rattle.net_ring.specs.{DequeueOne, DequeueErr, Makes, MakesAll, log_written, log_after, log_after_all, history}
 use Rattle.net_ring.specs.Log.{Log, empty_log, log_accepted, log_left, log_dropped}
 use Rattle.net_ring.proofs.Rotations.{length-overwrite, overwrite-append_right, length-queue}
 use Rattle.net_ring.proofs.RingFacts as facts

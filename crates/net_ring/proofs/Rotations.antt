@@ -1,7 +1,7 @@
 -- What a rotated list holds after a write to the list, and how the queue and the spare part of a ring change.
 -- Elements of a list that was written over.
 use Rattle.std.proofs.Common.{◌≡◌, ℕ, ◌+◌, ◌-◌, ◌<◌, ◌≤◌, ◌⊎◌, List, ◌++◌, length, take, drop, sym, ap, ap₂, ◌∙◌, inl}
-use Rattle.std.proofs.Common.{inr, arith, append_assoc, length-drop, ◌≢◌, Some, ◌∷◌, []}
+use Rattle.std.proofs.Common.{inr, arith, append_assoc, length-drop, ◌≢◌, Some, ◌∷◌, [], rules}
 use Rattle.std.proofs.lemmas.List.{take-append-drop, length-take-le, take_at, drop_at, take-append-le, drop-append-le}
 use Rattle.std.proofs.lemmas.List.{take-take, drop-take, drop-drop, places, same_lists}
 use Rattle.std.proofs.lemmas.Bool.Decides.{nat_tests}
@@ -11,7 +11,6 @@ use Rattle.net_ring.specs.{IsWellFormed, with_elements, with_enqueued, with_dequ
 use Rattle.std.specs.Prelude.{slice_get, slice_set}
 use Rattle.std.proofs.lemmas.Grind.{common_steps}
 use Rattle.std.proofs.lemmas.Option.{gets}
-use Rattle.std.proofs.Common.{rules}
 
 -- p is the index, in a list of c elements, of the element j of the list rotated by r
 abbrev pub IsStorageIndex : ℕ → ℕ → ℕ → ℕ → Type 0

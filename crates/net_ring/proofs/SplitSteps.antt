@@ -6,16 +6,14 @@ use Rattle.std.proofs.lemmas.List.Elements.{All-head, All-tail}
 use Rattle.std.proofs.lemmas.Bool.Decides.{nat_tests}
 use Rattle.std.specs.Prelude.{All}
 use Rattle.net_ring.specs.Width.{IsUsize}
-use Rattle.net_ring.specs.Ring.{ring, index_after, queue, spare, window, spare_index, storage_index}
-use Rattle.net_ring.specs.Ring.{IsWellFormed}
+use Rattle.net_ring.specs.Ring.{ring, index_after, queue, spare, window, spare_index, storage_index, IsWellFormed}
 use Rattle.net_ring.specs.Overwrite.{overwrite}
 use Rattle.net_ring.specs.SplitRing.{IsCount, AreCounts, counts, count_after, ahead, index_of, SplitState, Step}
 use Rattle.net_ring.specs.SplitRing.{LooksForRoom, Writes, Counts, LooksForElements, Takes, IsOfWriter, IsOfReader}
 use Rattle.net_ring.specs.SplitRing.{writer, reader, whole, fresh, after_step, after_steps, written_over}
 use Rattle.net_ring.proofs.Rotations.{length-overwrite, length-queue, with_enqueued_parts, with_dequeued_parts}
 use Rattle.net_ring.proofs.RingFacts.{wrapping_at}
-use Rattle.net_ring.proofs.SplitNumbers.{index_within, after_is, nearer, farther, ahead_twice}
-use Rattle.net_ring.proofs.SplitNumbers.{ahead_of_after, chain_is}
+use Rattle.net_ring.proofs.SplitNumbers.{index_within, after_is, nearer, farther, ahead_twice, ahead_of_after, chain_is}
 
 -- four counts, each so far ahead of the one before it that the last is at most c ahead of the first
 abbrev pub Chain : ℕ → ℕ → ℕ → ℕ → ℕ → Type 0

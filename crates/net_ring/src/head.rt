@@ -10,12 +10,10 @@
 
 ghost use Rattle.std.specs.Prelude.{◌≡◌, ◌↔◌, ◌≤◌, ◌-◌, ◌+◌, ◌++◌, ℕ, IsTrue, min, length, take, drop};
 ghost use Rattle.net_ring.specs.Overwrite.{overwrite};
-ghost use Rattle.net_ring.specs.Ring.{index_after, queue, window, with_elements_wrapping, with_enqueued};
-ghost use Rattle.net_ring.specs.Ring.{with_dequeued, rewind_if_empty, write_at, spare_index, WritesSpare, Enqueues};
-ghost use Rattle.net_ring.specs.Ring.{Dequeues};
-ghost use Rattle.net_ring.specs.RingHead.{place, IsSound, IsWithin, ring_at, free_index, queued_index};
-ghost use Rattle.net_ring.specs.RingHead.{contiguous_free, rewound, enqueued_place, dequeued_place, written_span};
-ghost use Rattle.net_ring.specs.RingHead.{elements_at};
+ghost use Rattle.net_ring.specs.Ring.{index_after, queue, window, with_elements_wrapping, with_enqueued, with_dequeued};
+ghost use Rattle.net_ring.specs.Ring.{rewind_if_empty, write_at, spare_index, WritesSpare, Enqueues, Dequeues};
+ghost use Rattle.net_ring.specs.RingHead.{place, IsSound, IsWithin, ring_at, free_index, queued_index, contiguous_free};
+ghost use Rattle.net_ring.specs.RingHead.{rewound, enqueued_place, dequeued_place, written_span, elements_at};
 
 /// The head of a ring: its numbers without its storage.
 ///

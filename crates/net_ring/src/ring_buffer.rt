@@ -2,18 +2,16 @@
 #![tactic(auto, using(crate::proofs::RingFacts::rings))]
 
 ghost use Rattle.std.specs.Prelude.{◌≡◌, ◌≢◌, ◌↔◌, ◌≤◌, ◌<◌, ◌==◌, ◌-◌, ◌+◌, ◌^◌, ◌∷◌, ◌++◌, [], List, length, take};
-ghost use Rattle.std.specs.Prelude.{drop, min, slice_get, IsTrue, IsErr, OnErr};
-ghost use Rattle.std.specs.Prelude.{IfOk, is_ok, if◌then◌else◌};
+ghost use Rattle.std.specs.Prelude.{drop, min, slice_get, IsTrue, IsErr, OnErr, IfOk, is_ok, if◌then◌else◌};
 ghost use Rattle.std.specs.Borrow.{sem};
 ghost use Rattle.std.specs.Fn.{FnOnceTakesAtMut};
 ghost use Rattle.std.specs.List.{AllZip};
 ghost use Rattle.net_ring.specs.{ring, capacity, window, queue, spare, write_at, IsWellFormed, contiguous_window};
 ghost use Rattle.net_ring.specs.{contiguous_spare, contiguous_unallocated, spare_index, contiguous_queued};
-ghost use Rattle.net_ring.specs.{contiguous_queue, contiguous_allocated, with_elements};
-ghost use Rattle.net_ring.specs.{with_elements_wrapping, with_enqueued, with_dequeued, with_one_enqueued};
-ghost use Rattle.net_ring.specs.{with_one_dequeued, rewind_if_empty, Enqueues, Dequeues, WritesSpare};
-ghost use Rattle.net_ring.specs.{TakesFirstOf, CalledOnNext, CalledOnFirst, CountsWithin, CalledOnSpare, CalledOnQueue};
-ghost use Rattle.net_ring.specs.{place, IsSound, ring_at};
+ghost use Rattle.net_ring.specs.{contiguous_queue, contiguous_allocated, with_elements, with_elements_wrapping};
+ghost use Rattle.net_ring.specs.{with_enqueued, with_dequeued, with_one_enqueued, with_one_dequeued, rewind_if_empty};
+ghost use Rattle.net_ring.specs.{Enqueues, Dequeues, WritesSpare, TakesFirstOf, CalledOnNext, CalledOnFirst};
+ghost use Rattle.net_ring.specs.{CountsWithin, CalledOnSpare, CalledOnQueue, place, IsSound, ring_at};
 
 use crate::error::{Empty, Full};
 use crate::head::RingHead;

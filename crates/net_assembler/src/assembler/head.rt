@@ -29,9 +29,8 @@ ghost use Rattle.net_assembler.specs.Positions.{EndsHole, IsEnd, RangeFits, are_
 ghost use Rattle.net_assembler.specs.Positions.{holes, holes_before, maximal_runs, nothing, present_count};
 ghost use Rattle.net_assembler.specs.Positions.{runs as run_count, shift_down, shift_up, without_range};
 ghost use Rattle.net_assembler.specs.RunLists.{AreRuns, AreUsize, FitsFrom, HasSoundRuns, IsCanonical, IsRising};
-ghost use Rattle.net_assembler.specs.RunLists.{SplitsRuns};
-ghost use Rattle.net_assembler.specs.RunLists.{end_at, runs_of, runs_shifted_down, runs_wrapped};
-ghost use Rattle.net_assembler.specs.RunLists.{set_of, set_of_runs, start_at, used_runs, wrapped_run};
+ghost use Rattle.net_assembler.specs.RunLists.{SplitsRuns, end_at, runs_of, runs_shifted_down, runs_wrapped, set_of};
+ghost use Rattle.net_assembler.specs.RunLists.{set_of_runs, start_at, used_runs, wrapped_run};
 ghost use Rattle.net_assembler.specs.Turns.{TurnsWithin, binary_digits};
 ghost use Rattle.net_ring.specs.Width.{IsUsize};
 

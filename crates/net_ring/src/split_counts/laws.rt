@@ -3,8 +3,7 @@ ghost use Rattle.std.specs.Prelude.{◌≡◌, ◌≢◌, ◌<◌, ◌≤◌, �
 ghost use Rattle.net_ring.specs.Width.{IsUsize};
 ghost use Rattle.net_ring.specs.Overwrite.{overwrite};
 ghost use Rattle.net_ring.specs.Ring.{queue, spare, window, storage_index};
-ghost use Rattle.net_ring.specs.SplitRing.{Step, Writes, fresh, after_step, after_steps, whole};
-ghost use Rattle.net_ring.specs.SplitRing.{writer, reader};
+ghost use Rattle.net_ring.specs.SplitRing.{Step, Writes, fresh, after_step, after_steps, whole, writer, reader};
 ghost use Rattle.net_ring.specs.SplitRing.{AreCounts, counts, IsOfWriter, IsOfReader};
 
 /// States of each list of steps of the two ends, in any order, in which an end may read an older value of the other's

@@ -6,11 +6,9 @@ use Rattle.net_receiver.proofs.FiniteReceivers.{met_alone, met_same, accepted_in
 use Rattle.net_receiver.proofs.FiniteReceivers.{ok_no_err, in_order_at}
 use Rattle.net_receiver.proofs.Words.{◌≡◌, ◌∙◌, ◌+◌, ap, subst, sym, inl, inr, length, List, ℕ}
 use Rattle.net_receiver.proofs.finite_receiver_head.keep_ending.Goals as goal
-use Rattle.net_receiver.proofs.finite_receiver_head.keep_ending.Goals.{then-is_last+then-ends_in_order}
-use Rattle.net_receiver.proofs.finite_receiver_head.keep_ending.Goals.{else-is_last}
+use Rattle.net_receiver.proofs.finite_receiver_head.keep_ending.Goals.{then-is_last+then-ends_in_order, else-is_last}
 use Rattle.net_receiver.proofs.finite_receiver_head.keep_ending.Goals.{else-is_last-via-then-is_last+else-ends_in_order}
-use Rattle.net_receiver.proofs.finite_receiver_head.keep_ending.Goals.{else-is_last-via-else-is_last}
-use Rattle.net_receiver.proofs.finite_receiver_head.keep_ending.Goals.{After-keep_usual}
+use Rattle.net_receiver.proofs.finite_receiver_head.keep_ending.Goals.{else-is_last-via-else-is_last, After-keep_usual}
 
 pub keep_usual-requires : goal.keep_usual-requires
 keep_usual-requires c = elim c.if-is_last.branch [

@@ -1,5 +1,4 @@
-use Rattle.net_receiver.proofs.OneStream.{completes, has_byte_stays, accepted_brings, has_all_reaches}
-use Rattle.net_receiver.proofs.OneStream.{in_order_reaches}
+use Rattle.net_receiver.proofs.OneStream.{completes, has_byte_stays, accepted_brings, has_all_reaches, in_order_reaches}
 use Rattle.net_receiver.proofs.laws.completion.Goals as goal
 
 pub returns : goal.returns

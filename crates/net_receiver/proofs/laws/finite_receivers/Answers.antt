@@ -1,7 +1,6 @@
 use Rattle.net_receiver.proofs.FiniteReceivers.{fresh_sound_end, sound_end_stays, end_stays, segment_of_stream}
 use Rattle.net_receiver.proofs.FiniteReceivers.{one_read, reads_the_stream, all_of_stream, acknowledged_grows}
-use Rattle.net_receiver.proofs.FiniteReceivers.{end_is_taken, all_bytes_complete, only_ends_differ}
-use Rattle.net_receiver.proofs.FiniteReceivers.{end_in_order}
+use Rattle.net_receiver.proofs.FiniteReceivers.{end_is_taken, all_bytes_complete, only_ends_differ, end_in_order}
 use Rattle.net_receiver.proofs.laws.finite_receivers.Goals as goal
 
 pub returns : goal.returns

@@ -1,6 +1,5 @@
-use Rattle.net_receiver.proofs.Words.{◌∙◌, length, ap, sym, subst, receiver_of, HasSoundParts}
-use Rattle.net_receiver.proofs.Words.{finite_of, HasSoundFinite, reported_by}
-use Rattle.net_receiver.proofs.Words.{IsSoundBoard}
+use Rattle.net_receiver.proofs.Words.{◌∙◌, length, ap, sym, subst, receiver_of, HasSoundParts, finite_of}
+use Rattle.net_receiver.proofs.Words.{HasSoundFinite, reported_by, IsSoundBoard}
 use Rattle.net_receiver.proofs.laws.heads_of_zeros.Goals as goal
 
 pub returns-clause-receiver : goal.returns-clause-receiver

@@ -1,5 +1,4 @@
-use Rattle.std.proofs.Common.{rules}
-use Rattle.std.proofs.Common.{◌<◌, arith}
+use Rattle.std.proofs.Common.{rules, ◌<◌, arith}
 use Rattle.net_assembler.proofs.Cuts.{cut_and_taken, cut_both, gap_after, gap_before, high_usize, is_inside, split_run}
 use Rattle.net_assembler.proofs.Cuts.{tail_fits}
 use Rattle.net_assembler.proofs.assembler.head.cut.Goals as goal

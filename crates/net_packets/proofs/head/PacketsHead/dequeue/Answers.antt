@@ -1,5 +1,4 @@
-use Rattle.std.proofs.Common.{rules}
-use Rattle.std.proofs.Common.{sym, subst}
+use Rattle.std.proofs.Common.{rules, sym, subst}
 use Rattle.net_packets.specs.{HasSoundSlots}
 use Rattle.net_packets.proofs.HeadQueue.{has_first, sound_dequeued, packet_dequeued, shown_first, if_some, either}
 use Rattle.net_packets.proofs.head.PacketsHead.dequeue.Goals as goal

@@ -1,8 +1,7 @@
 use Rattle.std.proofs.Common.{ap, ◌∙◌, arith}
 use Rattle.std.specs.declared.option.Option.TheVariants.{Some}
 use Rattle.net_packets.specs.{slot}
-use Rattle.net_packets.proofs.HeadParts.{IsFirstIn, queue_at, gap_first, first_at, first_fits, first_sized}
-use Rattle.net_packets.proofs.HeadParts.{first_shown}
+use Rattle.net_packets.proofs.HeadParts.{IsFirstIn, queue_at, gap_first, first_at, first_fits, first_sized, first_shown}
 use Rattle.net_packets.proofs.packet_buffer.PacketsOver.first.Given as given
 use Rattle.net_packets.proofs.packet_buffer.PacketsOver.first.Goals as goal
 use Rattle.net_packets.proofs.packet_buffer.PacketsOver.first.Goals.{In-Some}

@@ -1,9 +1,7 @@
-use Rattle.std.proofs.Common.{rules}
-use Rattle.std.proofs.Common.{ℕ, length, ap, ap₂, ◌∙◌, arith}
+use Rattle.std.proofs.Common.{rules, ℕ, length, ap, ap₂, ◌∙◌, arith}
 use Rattle.std.proofs.lemmas.List.{length-set}
 use Rattle.net_packets.specs.{without_first, with_slot_taken}
-use Rattle.net_packets.proofs.HeadParts.{IsQueue, queue_at, first_at, sized, first_in}
-use Rattle.net_packets.proofs.HeadParts.{taken}
+use Rattle.net_packets.proofs.HeadParts.{IsQueue, queue_at, first_at, sized, first_in, taken}
 use Rattle.net_packets.proofs.packet_buffer.PacketsOver.take_first.Given as given
 use Rattle.net_packets.proofs.packet_buffer.PacketsOver.take_first.Goals as goal
 

@@ -1,6 +1,5 @@
-use Rattle.net_receiver.proofs.Words.{arith, nat_tests, common_steps}
-use Rattle.net_receiver.proofs.Words.{◌≡◌, ◌∙◌, ℕ, List, ap, length, lent_whole, reported_by, subst, sym}
-use Rattle.net_receiver.proofs.Words.{IsSoundBoard, Result, Ok, Err}
+use Rattle.net_receiver.proofs.Words.{arith, nat_tests, common_steps, ◌≡◌, ◌∙◌, ℕ, List, ap, length, lent_whole}
+use Rattle.net_receiver.proofs.Words.{reported_by, subst, sym, IsSoundBoard, Result, Ok, Err}
 use Rattle.std.specs.Prelude.{OnOk, OnErr}
 use Rattle.net_receiver.specs.SendRanges.{Board}
 use Rattle.net_receiver.specs.declared.scoreboard_head.ReportError.{ReportError}

@@ -1,5 +1,4 @@
-use Rattle.net_receiver.proofs.Words.{◌∙◌, ap, length, length-append, arith, ring_at}
-use Rattle.net_receiver.proofs.Words.{contiguous_count, ReceiverState}
+use Rattle.net_receiver.proofs.Words.{◌∙◌, ap, length, length-append, arith, ring_at, contiguous_count, ReceiverState}
 use Rattle.net_receiver.proofs.Places.{lent_prefix, parts_are}
 use Rattle.net_receiver.proofs.Heads.{lent_view, lent_sound}
 use Rattle.net_receiver.proofs.receiver.ReceiverOver.as_slices.Goals as goal

@@ -1,5 +1,4 @@
-use Rattle.net_receiver.proofs.Words.{arith, nat_tests, common_steps}
-use Rattle.net_receiver.proofs.Words.{◌∙◌, ap, sym, subst, length, IsCanonical, Read}
+use Rattle.net_receiver.proofs.Words.{arith, nat_tests, common_steps, ◌∙◌, ap, sym, subst, length, IsCanonical, Read}
 use Rattle.net_receiver.proofs.Words.{receiver_after_read}
 use Rattle.net_receiver.proofs.OneStream.{stays, read_receives, read_bytes}
 use Rattle.net_receiver.proofs.Heads.{lent_view, lent_sound, back_view, back_sound, queue_size, sound_for}

@@ -1,6 +1,6 @@
 -- Each goal is a lemma of `Heads.antt` at what the calls ensured, for each storage and each bytes.
 use Rattle.std.proofs.Common.{◌≡◌, ◌⊎◌, ◌≤◌, ◌<◌, ◌-◌, ◌+◌, ◌^◌, ℕ, List, length, Ok, refl, sym, subst, ap, ◌∙◌, arith}
-use Rattle.std.proofs.Common.{nat_eq}
+use Rattle.std.proofs.Common.{nat_eq, false}
 use Rattle.std.proofs.lemmas.Bool.{cond-false}
 use Rattle.net_receiver.specs.declared.receiver_head.ReceiverHead.{ReceiverHead}
 use Rattle.net_assembler.specs.Positions.{with_range, runs}
@@ -10,10 +10,8 @@ use Rattle.net_receiver.specs.{state_after, numbers, receiver_of, storage_after,
 use Rattle.net_receiver.specs.Head.{verdict_at, counts_of, with_admitted}
 use Rattle.net_ring.specs.RingHead.{IsSound as IsSoundPlace}
 use Rattle.std.proofs.lemmas.Bool.Decides.{nat_tests}
-use Rattle.std.proofs.Common.{false}
 use Rattle.net_receiver.proofs.Heads.{sound_at, none_kept, cut_of, refused, refused_stores, joined_fits, kept_is}
-use Rattle.net_receiver.proofs.Heads.{kept_stores}
-use Rattle.net_receiver.proofs.Heads.{only_err, accepted_cases, lent_view, storage_of}
+use Rattle.net_receiver.proofs.Heads.{kept_stores, only_err, accepted_cases, lent_view, storage_of}
 use Rattle.net_receiver.proofs.Places.{front_removed}
 use Rattle.net_receiver.proofs.receiver_head.ReceiverHead.admit.Goals as goal
 

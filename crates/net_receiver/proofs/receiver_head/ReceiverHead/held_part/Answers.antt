@@ -2,8 +2,7 @@ use Rattle.net_receiver.proofs.HeldSearches.{top, under_top, offset}
 use Rattle.net_receiver.specs.Duplicates.{TellsFirst, TellsPart}
 use Rattle.net_receiver.specs.{next_at}
 use Rattle.net_receiver.proofs.Duplicates.{part_there, ends_within}
-use Rattle.net_receiver.proofs.Words.{◌≡◌, ℕ, ◌+◌, min, arith, set_of, shift_up}
-use Rattle.net_receiver.proofs.Words.{Some, contains, subst}
+use Rattle.net_receiver.proofs.Words.{◌≡◌, ℕ, ◌+◌, min, arith, set_of, shift_up, Some, contains, subst}
 use Rattle.net_receiver.proofs.receiver_head.ReceiverHead.held_part.Goals as goal
 
 pub overflow_add-next : goal.overflow_add-next

@@ -1,8 +1,5 @@
-use Rattle.net_receiver.proofs.HeldSearches.{top, under_top, offset}
-use Rattle.net_receiver.proofs.Words.{◌≡◌, ℕ, ◌+◌, arith, set_of, shift_up}
-use Rattle.net_receiver.proofs.Words.{run_at, Some, None}
-use Rattle.net_receiver.proofs.Words.{subst}
-use Rattle.net_receiver.proofs.HeldSearches.{before_all, end_is, none_has, one_has}
+use Rattle.net_receiver.proofs.HeldSearches.{top, under_top, offset, before_all, end_is, none_has, one_has}
+use Rattle.net_receiver.proofs.Words.{◌≡◌, ℕ, ◌+◌, arith, set_of, shift_up, run_at, Some, None, subst}
 use Rattle.net_receiver.proofs.receiver_head.ReceiverHead.run_at.Goals as goal
 
 pub returns-then-position-next : goal.returns-then-position-next

@@ -3,8 +3,7 @@ use Rattle.net_receiver.proofs.Words.{not, nat_lt, nat_tests, position_fits, set
 use Rattle.net_assembler.specs.AssemblerLaws.{Adds}
 use Rattle.net_assembler.proofs.Cuts.{contains-without_range}
 use Rattle.net_assembler.proofs.SoundHeads.{runs-set_of}
-use Rattle.net_receiver.proofs.Forgetting.{cut_forgotten, far_forgotten, kept_forgotten, raised_begins}
-use Rattle.net_receiver.proofs.Forgetting.{raised_fits}
+use Rattle.net_receiver.proofs.Forgetting.{cut_forgotten, far_forgotten, kept_forgotten, raised_begins, raised_fits}
 use Rattle.net_receiver.proofs.Scoreboards.{added_begins, added_fits}
 use Rattle.net_receiver.proofs.scoreboard_head.ScoreboardHead.forget_below.Goals as goal
 use Rattle.net_receiver.proofs.scoreboard_head.ScoreboardHead.forget_below.Goals.{After-end}

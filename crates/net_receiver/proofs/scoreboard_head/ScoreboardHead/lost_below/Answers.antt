@@ -1,13 +1,11 @@
 use Rattle.net_receiver.proofs.Words.{ℕ, ◌≡◌, ◌∙◌, ◌+◌, ◌-◌, ◌*◌, ◌≤◌, ◌⊎◌, ◌<◌, ◌↔◌, max, inl, inr, length, sym, ap}
 use Rattle.net_receiver.proofs.Words.{arith, refl, subst, false, suc, drop, [], maximal_runs, reported_by, beyond}
-use Rattle.net_receiver.proofs.Words.{sizes, cases_lt}
-use Rattle.net_receiver.proofs.Words.{both_ways, IsTrue, length-drop, List}
+use Rattle.net_receiver.proofs.Words.{sizes, cases_lt, both_ways, IsTrue, length-drop, List}
 use Rattle.std.proofs.lemmas.List.{drop_all}
 use Rattle.net_receiver.specs.{runs_above, tell_loss}
 use Rattle.net_receiver.proofs.Scoreboards.{few_tell, many_tell}
 use Rattle.net_receiver.proofs.BoardSearches.{all_rise, among, bound_at, no_bound, numbered, one_more, sizes_all}
-use Rattle.net_receiver.proofs.BoardSearches.{start_fits}
-use Rattle.net_receiver.proofs.BoardSearches.{start_is, stored}
+use Rattle.net_receiver.proofs.BoardSearches.{start_fits, start_is, stored}
 use Rattle.net_receiver.proofs.scoreboard_head.ScoreboardHead.lost_below.Goals.{then-above-enough-via-then-above-enough}
 use Rattle.net_receiver.proofs.scoreboard_head.ScoreboardHead.lost_below.Goals.{then-above-enough-via-else-above-enough+then-bytes-most}
 use Rattle.net_receiver.proofs.scoreboard_head.ScoreboardHead.lost_below.Goals.{In-Some}

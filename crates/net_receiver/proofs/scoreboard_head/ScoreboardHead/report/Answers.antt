@@ -1,8 +1,6 @@
-use Rattle.net_receiver.proofs.Words.{nat_tests, common_steps}
-use Rattle.net_receiver.proofs.Words.{◌≡◌, ◌+◌, ◌-◌, ◌∙◌, length, ap, arith, is_ok, refl, sym, false≢true, with_range}
-use Rattle.net_receiver.proofs.Words.{set_of, reported_by}
-use Rattle.net_receiver.proofs.Scoreboards.{with_range_below, with_range_beyond, no_room, added_begins}
-use Rattle.net_receiver.proofs.Scoreboards.{added_fits}
+use Rattle.net_receiver.proofs.Words.{nat_tests, common_steps, ◌≡◌, ◌+◌, ◌-◌, ◌∙◌, length, ap, arith, is_ok, refl, sym}
+use Rattle.net_receiver.proofs.Words.{false≢true, with_range, set_of, reported_by}
+use Rattle.net_receiver.proofs.Scoreboards.{with_range_below, with_range_beyond, no_room, added_begins, added_fits}
 use Rattle.net_receiver.proofs.scoreboard_head.ScoreboardHead.report.Goals as goal
 
 pub returns-then-start-self-clause-ok : goal.returns-then-start-self-clause-ok

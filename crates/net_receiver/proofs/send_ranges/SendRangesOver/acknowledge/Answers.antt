@@ -1,5 +1,4 @@
-use Rattle.net_receiver.proofs.Words.{◌≡◌, ◌∙◌, ◌-◌, ℕ, ap, arith, front, subst, sym, not, ◌&&◌}
-use Rattle.net_receiver.proofs.Words.{with_range}
+use Rattle.net_receiver.proofs.Words.{◌≡◌, ◌∙◌, ◌-◌, ℕ, ap, arith, front, subst, sym, not, ◌&&◌, with_range}
 use Rattle.net_assembler.proofs.Sets.{with_range-none}
 use Rattle.net_receiver.specs.Scoreboards.{Forgets}
 use Rattle.net_receiver.specs.SendRanges.{Board, IsSoundRanges, Loses, RangesState, is_open, is_within, ranges_of}

@@ -1,5 +1,4 @@
-use Rattle.net_receiver.proofs.Words.{arith, nat_tests, common_steps}
-use Rattle.net_receiver.proofs.Words.{◌≡◌, ◌∙◌, ap, length, lent_whole, finite_of}
+use Rattle.net_receiver.proofs.Words.{arith, nat_tests, common_steps, ◌≡◌, ◌∙◌, ap, length, lent_whole, finite_of}
 use Rattle.net_receiver.specs.{finite_after}
 use Rattle.net_receiver.specs.StreamState.{StreamState}
 use Rattle.net_receiver.proofs.stream_receiver.StreamReceiverOver.keep.Given as given

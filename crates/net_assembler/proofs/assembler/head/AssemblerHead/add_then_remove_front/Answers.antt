@@ -1,5 +1,4 @@
-use Rattle.std.proofs.Common.{rules}
-use Rattle.std.proofs.Common.{◌∙◌, ◌<◌, refl, ap, arith}
+use Rattle.std.proofs.Common.{rules, ◌∙◌, ◌<◌, refl, ap, arith}
 use Rattle.net_assembler.specs.RunLists.{set_of_runs}
 use Rattle.net_assembler.proofs.Sets.{too_many}
 use Rattle.net_assembler.proofs.SoundHeads.{contains-below, contains-none, dropped, few_held, lowered, lowered_set}

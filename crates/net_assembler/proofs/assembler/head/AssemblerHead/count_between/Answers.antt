@@ -1,7 +1,6 @@
 use Rattle.std.proofs.Common.{◌∙◌, arith, refl}
 use Rattle.net_assembler.specs.RunLists.{used_runs}
-use Rattle.net_assembler.proofs.Searches.{before_split, few_split, no_overlap, overlap, overlap_set}
-use Rattle.net_assembler.proofs.Searches.{skipped_overlap}
+use Rattle.net_assembler.proofs.Searches.{before_split, few_split, no_overlap, overlap, overlap_set, skipped_overlap}
 use Rattle.net_assembler.proofs.assembler.head.AssemblerHead.count_between.Goals as goal
 
 pub loop-k-init : goal.loop-k-init

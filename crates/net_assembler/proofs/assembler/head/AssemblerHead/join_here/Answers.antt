@@ -1,12 +1,10 @@
-use Rattle.std.proofs.Common.{◌≡◌, ◌∙◌, ℕ, ◌+◌, ◌-◌, ◌<◌, ◌≤◌, ◌++◌, ap, drop, length, refl, set, sym, take}
-use Rattle.std.proofs.Common.{arith}
+use Rattle.std.proofs.Common.{◌≡◌, ◌∙◌, ℕ, ◌+◌, ◌-◌, ◌<◌, ◌≤◌, ◌++◌, ap, drop, length, refl, set, sym, take, arith}
 use Rattle.std.proofs.lemmas.Bool.{cases_lt}
-use Rattle.std.proofs.lemmas.List.{length-set}
+use Rattle.std.proofs.lemmas.List.{length-set, append-nil, drop_all, length-take}
 use Rattle.net_assembler.specs.RunLists.{FitsFrom, end_at, runs_wrapped, start_at, used_runs, wrapped_run}
 use Rattle.net_assembler.proofs.Runs.{runs_with_range}
 use Rattle.net_assembler.proofs.Calls.{below_binary_digits, no_turn}
 use Rattle.net_assembler.proofs.SoundHeads.{joined_in_place, refused_in_place}
-use Rattle.std.proofs.lemmas.List.{append-nil, drop_all, length-take}
 use Rattle.net_assembler.proofs.Moves.{rest_written, written_above}
 use Rattle.net_assembler.proofs.Sets.{either}
 use Rattle.net_assembler.proofs.Joins.{grown_run, used_starts_rise}

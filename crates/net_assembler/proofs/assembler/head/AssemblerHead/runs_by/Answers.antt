@@ -1,5 +1,4 @@
-use Rattle.std.proofs.Common.{rules}
-use Rattle.std.proofs.Common.{arith, length}
+use Rattle.std.proofs.Common.{rules, arith, length}
 use Rattle.net_assembler.proofs.Searches.{splits, splits_none}
 use Rattle.net_assembler.specs.Turns.{binary_digits}
 use Rattle.net_assembler.proofs.Calls.{below_binary_digits}

@@ -1,5 +1,4 @@
-use Rattle.std.proofs.Common.{arith}
-use Rattle.std.proofs.Common.{◌≡◌, ◌∙◌, ℕ, ℤ, Bool, List, Result, ap, length, subst, w64}
+use Rattle.std.proofs.Common.{arith, ◌≡◌, ◌∙◌, ℕ, ℤ, Bool, List, Result, ap, length, subst, w64}
 use Rattle.std.proofs.lemmas.Int.{to_z-of_z}
 use Rattle.net_base.specs.Fragments.{FragmentsState, begun, Adds}
 use Rattle.net_base.specs.declared.storage.fragments.FragmentError.{FragmentError}

@@ -1,5 +1,4 @@
-use Rattle.std.proofs.Common.{arith}
-use Rattle.std.proofs.Common.{append_assoc}
+use Rattle.std.proofs.Common.{arith, append_assoc}
 use Rattle.net_base.proofs.Moments.{styled_unsigned, text_written}
 use Rattle.net_base.proofs.time.duration.Duration.text.Goals as goal
 
