@@ -25,9 +25,9 @@
 //! | a queue of packets, each with a header | [`PacketBuffer`](storage::PacketBuffer) |
 //! | bytes from an interrupt | [`SplitRing`](storage::SplitRing) |
 //! | a stream out of segments | [`Receiver`](receiver::Receiver), [`FiniteReceiver`](finite::FiniteReceiver) if it ends |
-//! | both sides of a QUIC stream | [`FiniteReceiver`](finite::FiniteReceiver), [`SendBuffer`](finite::SendBuffer) |
+//! | both sides of a QUIC stream | [`StreamRanges`](finite::StreamRanges), [`SendRanges`](finite::SendRanges) |
 //! | what else a transport needs | [`scoreboard`], [`sequence_number`], [`checksum`] |
-//! | both ends of a TCP connection | the crate [net-tcp](https://docs.rs/net-tcp), which is over this one |
+//! | both ends of a TCP connection | the crate `net-tcp`, which is over this one |
 //! | packets out of IP fragments | [`FragmentBuffer`](storage::FragmentBuffer) |
 //!
 //! `docs/GUIDE.md` of the repository has a program for each, and the order of the calls of a TCP.
