@@ -292,11 +292,12 @@ enum NET_BASE_32_BITS net_base_arrival_status {
     /** Take what a segment acknowledges, its window, its bytes and its end. */
     NET_BASE_ARRIVAL_TAKE = 6,
     /** Take what a segment acknowledges and its window, but not its bytes, and answer it: the own
-     * window is shut, and the peer asks whether it has opened. */
+     * window is shut, and the peer asks whether it has opened; or the segment is empty and below
+     * the window, as an old acknowledgement or a keep-alive. */
     NET_BASE_ARRIVAL_ACKNOWLEDGEMENT_ONLY = 7,
-    /** Send an acknowledgement, and take nothing of a segment. Of bytes that all came before it
-     * reports so (RFC 2883), if the receiving end was told: `net_base_receiving_end_arrived` keeps
-     * none of them. */
+    /** Send an acknowledgement, and take nothing of a segment. If it has bytes, and no SYN or RST,
+     * pass these to `net_base_receiving_end_arrived` before that: it keeps none, but the answer
+     * then reports what came twice (RFC 2883). */
     NET_BASE_ARRIVAL_ANSWER = 8,
     NET_BASE_ARRIVAL_IGNORE = 9, /**< Take nothing of a segment, and send nothing. */
     NET_BASE_ARRIVAL_RESET = 10, /**< The peer has reset the connection. */
@@ -1240,8 +1241,9 @@ NET_BASE_MUST_USE bool net_base_sending_end_take_back(
     size_t storage_length) NET_BASE_LINK(sending_end_take_back);
 
 /** Returns the segment that is to be sent now, and takes notice that it is: if the peer's window
- * and the congestion window have room for one, or as a probe. Less than a whole segment may be
- * held back (RFC 9293, 3.8.6.2.1, and Nagle's rule).
+ * and the congestion window have room for one, or as a probe. `congestion_window` is how many
+ * bytes may be in flight. Less than a whole segment may be held back (RFC 9293, 3.8.6.2.1, and
+ * Nagle's rule).
  *
  * It is refused if `end` isn't sound over `storage_length` bytes: `position` and `end` are 0,
  * `is_again` is false, the status is `NET_BASE_OUTGOING_REFUSED`, and nothing changes. */

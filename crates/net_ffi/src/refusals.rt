@@ -64,11 +64,12 @@ pub const NET_BASE_OTHER_END: Status = 5;
 pub const NET_BASE_TAKE: Status = 6;
 
 /// Take what a segment acknowledges and its window, but not its bytes, and answer it: the own window is shut, and the
-/// peer asks whether it has opened.
+/// peer asks whether it has opened; or the segment is empty and below the window, as an old acknowledgement or a
+/// keep-alive.
 pub const NET_BASE_ACKNOWLEDGEMENT_ONLY: Status = 7;
 
-/// Send an acknowledgement, and take nothing of a segment. Of bytes that all came before it reports so (RFC 2883), if
-/// the receiving end was told: `net_base_receiving_end_arrived` keeps none of them.
+/// Send an acknowledgement, and take nothing of a segment. If it has bytes, and no SYN or RST, pass these to
+/// `net_base_receiving_end_arrived` before that: it keeps none, but the answer then reports what came twice (RFC 2883).
 pub const NET_BASE_ANSWER: Status = 8;
 
 /// Take nothing of a segment, and send nothing.

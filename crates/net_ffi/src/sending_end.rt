@@ -649,8 +649,8 @@ pub extern "C" fn net_base_sending_end_take_back(end: &mut SendingEnd, storage: 
 }
 
 /// Returns the segment that is to be sent now, and takes notice that it is: if the peer's window and the congestion
-/// window have room for one, or as a probe. Less than a whole segment may be held back (RFC 9293, 3.8.6.2.1, and
-/// Nagle's rule).
+/// window have room for one, or as a probe. `congestion_window` is how many bytes may be in flight. Less than a whole
+/// segment may be held back (RFC 9293, 3.8.6.2.1, and Nagle's rule).
 ///
 /// It is refused if `end` isn't sound over `storage.len()` bytes: `position` and `end` are 0, `is_again` is false, the
 /// status is `NET_BASE_REFUSED`, and nothing changes.
