@@ -164,7 +164,7 @@ sample() {
     echo "| quinn's tests | quinn as it is | over net-base |"
     echo '|---|---:|---:|'
     echo "| pass | $(passed original) | $(passed ported) |"
-    echo "| pass, of those that want other pieces of frames that overlap, with joined bytes | | $(passed joined) |"
+    echo "| the four that fail, where they compare joined bytes | | $(passed joined) |"
     run_transfers "$original" transfers.original
     run_transfers "$ported" transfers.ported
     echo
