@@ -92,7 +92,9 @@ def named(word):
     before, *fields = name[2].split('.') if name else ['']
     fields = [field for field in fields if field not in STATES]
     needs('old' not in fields[1:])
-    return '.'.join([f'old({name[1]})', *fields[1:]] if fields[:1] == ['old'] else [name[1], *fields]) if name else word
+    # What a call returns has no value before it: `old` is a field there.
+    was = fields[:1] == ['old'] and name[1] != 'result'
+    return '.'.join([f'old({name[1]})', *fields[1:]] if was else [name[1], *fields]) if name else word
 
 
 def said(clause, begin=''):

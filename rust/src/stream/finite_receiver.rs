@@ -381,7 +381,7 @@ impl<S: Storage<u8>, const N: usize> FiniteReceiverOver<S, N> {
     ///
     /// # [Guarantees](crate#guarantees)
     ///
-    /// - `old(result) + result.in_window + result.beyond + result.past_end == len`
+    /// - `result.old + result.in_window + result.beyond + result.past_end == len`
     #[must_use]
     pub fn parts_of(&self, pos: u64, len: usize) -> SegmentParts {
         let below = count_below(self.after_end, pos, len);

@@ -618,7 +618,7 @@ impl<S: Storage<u8>, const N: usize> ReceiverOver<S, N> {
     ///
     /// # [Guarantees](crate#guarantees)
     ///
-    /// - `old(result) + result.in_window + result.beyond == len`
+    /// - `result.old + result.in_window + result.beyond == len`
     #[must_use]
     pub fn parts_of(&self, pos: u64, len: usize) -> SegmentParts {
         self.head.parts_of(self.storage.count(), pos, len)
