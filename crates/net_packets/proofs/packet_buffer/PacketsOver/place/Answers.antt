@@ -1,12 +1,19 @@
-use Rattle.std.proofs.Common.{ap, ◌∙◌, arith, rules}
+use Rattle.std.proofs.Common.{refl, sym, ap, ◌∙◌, arith, rules}
 use Rattle.std.proofs.lemmas.Bool.{false≢true}
-use Rattle.net_packets.specs.{with_packet, first_size, only_last}
+use Rattle.net_packets.specs.{with_packet, with_packet_if, first_size, only_last}
 use Rattle.net_packets.specs.declared.head.PacketsHead.{PacketsHead}
-use Rattle.net_packets.proofs.HeadParts.{IsQueue, IsPlaceIn, place_in, queue_at, well, gap_is, has_place}
+use Rattle.net_packets.proofs.HeadParts.{IsQueue, IsPlaceIn, place_in, queue_at, well, placement_is, gap_is, has_place}
 use Rattle.net_packets.proofs.HeadParts.{placed_is, placed, size_is}
 use Rattle.net_packets.proofs.PacketOrder.{accepted_as, stands_as, place_call}
 use Rattle.net_packets.proofs.packet_buffer.PacketsOver.place.Given as given
 use Rattle.net_packets.proofs.packet_buffer.PacketsOver.place.Goals as goal
+
+pub returns-in_default-clause-placed : goal.returns-in_default-clause-placed
+returns-in_default-clause-placed g c =
+    let is = placement_is (queue_at _ _ _ c.self.invariant c.self.view_is) _ _ c.count-slot_count.ensures
+    c.count-capacity.ensures c.args.size in
+    sym (ap (λ o. with_packet_if c.args.self.now o c.args.size c.args.header) (sym is ∙ c.in_default.ensures.full.0
+    refl))
 
 module _ (g : given.Over) (c : goal.After-self-1 g) where
   at : IsPlaceIn c.self.inside.head (g.M.Storage.elements c.self.inside.slots)
