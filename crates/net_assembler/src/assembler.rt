@@ -80,7 +80,7 @@ impl<const N: usize> Model for Assembler<N> {
 impl<const N: usize> Assembler<N> {
     /// Returns an assembler with no position, which has room for `N` maximal runs.
     ///
-    /// smoltcp has only `new`. In Rust that has the number of runs that features set, and this any.
+    /// smoltcp has only `new`, whose number of runs features set. In Rust `new` has 4 runs here, and this any number.
     ///
     /// ```
     /// # use net_base::storage::Assembler;
@@ -186,11 +186,6 @@ impl<const N: usize> Assembler<N> {
     ///
     /// It is inlined where it is called, so it is the fast call, and the large one. `add_then_remove_front`
     /// calls the same rule as one function.
-    ///
-    /// ```rust
-    /// assembler.add(offset, size)?;
-    /// Ok(assembler.peek_front())
-    /// ```
     ///
     /// ```
     /// # use net_base::storage::Assembler;

@@ -30,7 +30,7 @@ use std::ops::Range;
 /// use net_base::finite::SendBuffer;
 /// use net_base::storage::Run;
 ///
-/// // 64 bytes may wait, and 4 runs are stored of what is acknowledged out of order, and 4 of what is lost.
+/// // 64 bytes may wait. 4 runs are remembered that are acknowledged out of order, and 4 in flight beyond a loss.
 /// let (mut storage, mut acknowledged, mut settled) = ([0; 64], [Run::EMPTY; 4], [Run::EMPTY; 4]);
 /// let buffer = SendBuffer::new_at(&mut storage, &mut acknowledged, &mut settled, 0);
 /// assert_eq!((buffer.window(), buffer.numbers_end()), (64, 0));
@@ -591,8 +591,8 @@ impl<S: Storage<u8>, R: Storage<Run>> SendBufferOver<S, R> {
     /// acknowledged is sent again. Any number of ranges may be lost at a time, in any order. Returns true, or false if
     /// the range ends above what was sent: then nothing changes.
     ///
-    /// If `most_runs` runs are in flight beyond what was lost first, and this would be one more, the shorter part of
-    /// the run that the range is in is lost too.
+    /// A loss in the middle of a run that is in flight leaves two runs. If there is no room for one more, the shorter
+    /// of these is lost too.
     ///
     /// ```
     /// # use net_base::finite::SendBuffer;

@@ -180,7 +180,7 @@ impl<S: Storage<u8>, const N: usize> ReceiverOver<S, N> {
     /// does the same, and lists no runs.
     ///
     /// They are written at their positions, over those held there, and all bytes that are then
-    /// contiguous from `next` on join the queue. If there are none, nothing changes.
+    /// contiguous from `next` on join the queue. If no byte is in the window, nothing changes.
     ///
     /// ```
     /// # use net_base::receiver::Receiver;
@@ -277,13 +277,6 @@ impl<S: Storage<u8>, const N: usize> ReceiverOver<S, N> {
 
     /// Moves bytes from the head of the queue to the beginning of `into`, and returns how many: as
     /// many as are queued and as `into` has room for. The rest of `into` stays as it is.
-    ///
-    /// ```text
-    /// if Receiver::<4>::fits(pos, payload.len()) {
-    ///     let _accepted = receiver.segment(pos, payload).is_ok();
-    /// }
-    /// receiver.read(into)
-    /// ```
     ///
     /// ```
     /// # use net_base::receiver::Receiver;

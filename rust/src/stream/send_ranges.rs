@@ -54,7 +54,8 @@ pub struct Acknowledged {
     pub sent_again: bool,
 }
 
-/// The acknowledged range ends above what was sent, which is the peer's fault. Nothing changes.
+/// The acknowledged range ends above what was sent: its packet was never sent, or another range was marked for it.
+/// Nothing changes.
 ///
 /// ```
 /// use net_base::finite::{NotSent, SendRanges};
@@ -74,13 +75,14 @@ pub struct NotSent;
 /// of a packet: these are its connection's. `next` returns what is lost, and then what was never sent. (Not in
 /// smoltcp.)
 ///
-/// No number is forgotten, however few runs have room. There are at most `most_runs` of what is acknowledged beyond the
-/// first number that isn't, and as many of what is in flight beyond the first number that was lost. Where there would
-/// be more, some numbers are sent twice, but none is left out. So if each range that was marked is at last acknowledged
-/// or lost, all that was written is acknowledged in the end. A quarter of the packets in flight is enough. With 128
-/// packets in flight and one in ten lost, 32 repeat nothing, 16 make a few percent more packets, and 8 about twice as
-/// many. Without a run, a loss loses all that was sent from there on, and what is acknowledged out of order is sent
-/// again.
+/// No number is forgotten, however few runs have room. Each of both storages remembers at most `most_runs` runs: one
+/// those that are acknowledged beyond the first number that isn't, the other those that are in flight beyond the first
+/// number that was lost. Where there would be more, some numbers are sent twice, but none is left out. So if each range
+/// that was marked is at last acknowledged or lost, all that was written is acknowledged in the end.
+///
+/// Half as many runs as there are packets in flight are always enough, and mostly a quarter is. With 128 packets in
+/// flight and one in ten lost, 32 repeat nothing, 16 make a few percent more packets, and 8 about twice as many. With
+/// no run at all, a loss loses all that was sent from there on, and what is acknowledged out of order is sent again.
 ///
 /// Positions are absolute, and the end has the number after the last byte's, as a `FiniteSender` counts them. No call
 /// allocates.
@@ -503,8 +505,8 @@ impl<R: Storage<Run>> SendRangesOver<R> {
     /// acknowledged is sent again. Any number of ranges may be lost at a time, in any order. Returns true, or false if
     /// the range ends above what was sent: then nothing changes.
     ///
-    /// If `most_runs` runs are in flight beyond what was lost first, and this would be one more, the shorter part of
-    /// the run that the range is in is lost too.
+    /// A loss in the middle of a run that is in flight leaves two runs. If there is no room for one more, the shorter
+    /// of these is lost too.
     ///
     /// ```
     /// # use net_base::finite::SendRanges;
