@@ -31,18 +31,18 @@ macro_rules! errors {
 
 errors! {
     FragmentError {
-        TooLong: "past the end of the buffer",
+        TooLong: "the fragment ends past the buffer",
         TooManyHoles: "too many holes",
-        OtherSize: "contradicts the packet's size"
+        OtherSize: "the fragment contradicts the packet's size"
     }
     AcceptError {
-        NoBytes: "no bytes",
-        NoSlot: "no slots",
-        OtherBytes: "contradicts bytes that have arrived",
-        TooLong: "past the end of the buffer",
+        NoBytes: "the fragment has no bytes",
+        NoSlot: "the table has no slots",
+        OtherBytes: "the fragment contradicts bytes that have arrived",
+        TooLong: "the fragment ends past the buffer",
         TooManyHoles: "too many holes",
-        OtherSize: "contradicts the packet's size"
+        OtherSize: "the fragment contradicts the packet's size"
     }
-    FiniteError { TooManyHoles: "too many holes", OtherEnd: "the stream ends elsewhere" }
-    ReportError { NoBlock: "not a block of what was sent", TooManyHoles: "too many holes" }
+    FiniteError { TooManyHoles: "too many holes", OtherEnd: "the end contradicts what has arrived" }
+    ReportError { NoBlock: "the block isn't of what was sent", TooManyHoles: "too many holes" }
 }

@@ -81,11 +81,13 @@ pub struct SegmentParts {
 /// ```
 #[derive(Debug, Clone, Copy, PartialEq, Eq, Hash, Drop, Error)]
 pub enum FiniteError {
-    /// Its bytes would make more held runs than there is room for.
+    /// Its bytes would make more held runs than there is room for. Over TCP drop it, since the peer sends it again.
+    /// Over QUIC keep its bytes, and pass them again once `next` has risen.
     #[error("too many holes")]
     TooManyHoles,
     /// It says that the stream ends where it can't: at another position than an earlier one said,
-    /// below the first missing position or the end of a held run, or at `u64::MAX`.
-    #[error("the stream ends elsewhere")]
+    /// below the first missing position or the end of a held run, or at `u64::MAX`. Over QUIC that is a
+    /// FINAL_SIZE_ERROR (RFC 9000, section 4.5).
+    #[error("the end contradicts what has arrived")]
     OtherEnd,
 }

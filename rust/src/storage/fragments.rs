@@ -408,9 +408,9 @@ fn moment_of(head: &FragmentsHead) -> Instant {
 impl core::fmt::Display for FragmentError {
     fn fmt(&self, f: &mut core::fmt::Formatter<'_>) -> core::fmt::Result {
         f.write_str(match self {
-            FragmentError::TooLong => "past the end of the buffer",
+            FragmentError::TooLong => "the fragment ends past the buffer",
             FragmentError::TooManyHoles => "too many holes",
-            FragmentError::OtherSize => "contradicts the packet's size",
+            FragmentError::OtherSize => "the fragment contradicts the packet's size",
         })
     }
 }

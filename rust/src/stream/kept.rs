@@ -84,10 +84,12 @@ pub struct SegmentParts {
 #[derive(Debug, Clone, Copy, PartialEq, Eq, Hash)]
 #[non_exhaustive]
 pub enum FiniteError {
-    /// Its bytes would make more held runs than there is room for.
+    /// Its bytes would make more held runs than there is room for. Over TCP drop it, since the peer sends it again.
+    /// Over QUIC keep its bytes, and pass them again once `next` has risen.
     TooManyHoles,
     /// It says that the stream ends where it can't: at another position than an earlier one said,
-    /// below the first missing position or the end of a held run, or at `u64::MAX`.
+    /// below the first missing position or the end of a held run, or at `u64::MAX`. Over QUIC that is a
+    /// FINAL_SIZE_ERROR (RFC 9000, section 4.5).
     OtherEnd,
 }
 
@@ -95,7 +97,7 @@ impl core::fmt::Display for FiniteError {
     fn fmt(&self, f: &mut core::fmt::Formatter<'_>) -> core::fmt::Result {
         f.write_str(match self {
             FiniteError::TooManyHoles => "too many holes",
-            FiniteError::OtherEnd => "the stream ends elsewhere",
+            FiniteError::OtherEnd => "the end contradicts what has arrived",
         })
     }
 }

@@ -340,7 +340,7 @@ fn is_report(first: u64, start: u64, end: u64, sent: u64) -> bool {
 impl core::fmt::Display for ReportError {
     fn fmt(&self, f: &mut core::fmt::Formatter<'_>) -> core::fmt::Result {
         f.write_str(match self {
-            ReportError::NoBlock => "not a block of what was sent",
+            ReportError::NoBlock => "the block isn't of what was sent",
             ReportError::TooManyHoles => "too many holes",
         })
     }

@@ -147,7 +147,9 @@ impl<S: Storage<u8>, R: Storage<Run>> StreamReceiverOver<S, R> {
         replace(&mut self.runs, more)
     }
 
-    /// Keeps the bytes of a segment that are in the free window and below the end, as `FiniteReceiver::keep` does.
+    /// Keeps the bytes of a segment that are in the free window and below the end, as `FiniteReceiver::keep` does: the
+    /// others are left out without an error. An end in order is taken even if another end was known. A QUIC stream has
+    /// one final size, so ask `can_end` before you pass a FIN.
     ///
     /// ```
     /// # use net_base::finite::{FiniteError, StreamReceiver};
@@ -160,7 +162,7 @@ impl<S: Storage<u8>, R: Storage<Run>> StreamReceiverOver<S, R> {
     ///
     /// # Errors
     ///
-    /// `OtherEnd` if the segment says that the stream ends where it can't (`can_end`), and not in order; else
+    /// `OtherEnd` if the segment isn't in order, and says that the stream ends where it can't (`can_end`); else
     /// `TooManyHoles` if its bytes would make too many runs. Then nothing changes.
     pub fn keep(&mut self, pos: u64, bytes: &[u8], fin: bool) -> Result<KeptBytes, FiniteError> {
         let count = self.storage.count();

@@ -35,14 +35,14 @@ pub use head::FragmentsHead;
 #[derive(Debug, Clone, Copy, PartialEq, Eq, Hash, Drop, Error)]
 pub enum FragmentError {
     /// It reaches past the end of the buffer.
-    #[error("past the end of the buffer")]
+    #[error("the fragment ends past the buffer")]
     TooLong,
     /// It would leave more maximal runs of bytes, with holes between them, than there is room for.
     #[error("too many holes")]
     TooManyHoles,
     /// It contradicts the packet's size: another size is known, or a byte at that size or above has arrived; or the
     /// fragment reaches past a known size.
-    #[error("contradicts the packet's size")]
+    #[error("the fragment contradicts the packet's size")]
     OtherSize,
 }
 

@@ -295,12 +295,12 @@ pub fn take_complete<K: Copy + Eq, B: Storage<u8>, const N: usize>(
 impl core::fmt::Display for AcceptError {
     fn fmt(&self, f: &mut core::fmt::Formatter<'_>) -> core::fmt::Result {
         f.write_str(match self {
-            AcceptError::NoBytes => "no bytes",
-            AcceptError::NoSlot => "no slots",
-            AcceptError::OtherBytes => "contradicts bytes that have arrived",
-            AcceptError::TooLong => "past the end of the buffer",
+            AcceptError::NoBytes => "the fragment has no bytes",
+            AcceptError::NoSlot => "the table has no slots",
+            AcceptError::OtherBytes => "the fragment contradicts bytes that have arrived",
+            AcceptError::TooLong => "the fragment ends past the buffer",
             AcceptError::TooManyHoles => "too many holes",
-            AcceptError::OtherSize => "contradicts the packet's size",
+            AcceptError::OtherSize => "the fragment contradicts the packet's size",
         })
     }
 }

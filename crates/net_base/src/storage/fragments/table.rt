@@ -49,22 +49,22 @@ use thiserror::Error;
 #[derive(Debug, Clone, Copy, PartialEq, Eq, Hash, Drop, Error)]
 pub enum AcceptError {
     /// It has no bytes.
-    #[error("no bytes")]
+    #[error("the fragment has no bytes")]
     NoBytes,
     /// There are no slots.
-    #[error("no slots")]
+    #[error("the table has no slots")]
     NoSlot,
     /// A byte of the packet that has arrived is another one.
-    #[error("contradicts bytes that have arrived")]
+    #[error("the fragment contradicts bytes that have arrived")]
     OtherBytes,
     /// It reaches past the end of the buffer.
-    #[error("past the end of the buffer")]
+    #[error("the fragment ends past the buffer")]
     TooLong,
     /// It would leave more maximal runs of bytes, with holes between them, than there is room for.
     #[error("too many holes")]
     TooManyHoles,
     /// It reaches past the packet's end, or is the last one, and the packet can't end there.
-    #[error("contradicts the packet's size")]
+    #[error("the fragment contradicts the packet's size")]
     OtherSize,
 }
 
