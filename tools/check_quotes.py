@@ -10,16 +10,15 @@ line, in one file crates/*/src/**/*.rt, which the prover checks, in Rust's examp
 doesn't matter, nor does the attribute `#![tactic(auto)]`, which each crate has in its root. Each link of a page has to
 lead to a file, and to a heading of it.
 
-docs/laws.md has the comments of all laws, docs/CALLING.md what the roots of crates say of calling them from a proof.
-Numbers of pages are those of the files that tools/parts/figures.py names. `tools/check_quotes.py --write` writes all of
-these.
+docs/laws.md has the comments of all laws, and numbers of pages are those of the files that tools/parts/figures.py
+names: `tools/check_quotes.py --write` writes both.
 
 In prose, between backquotes, each name has to be one of the sources, a file's or a folder's, or one of ELSEWHERE: names
 of the kit, of Rust or of smoltcp that no source has, and parameters. A name that ends or begins with an underscore is
 short for all that begin or end so. A path has to be a file's, from the top, from `crates` or from a crate's folder on,
-and a file's name that of a file. Each name after the word "clause" has to be that of a clause of some function, and
-where "of" and a function's name follow, of one of that name. Quotations of README.md and docs/PROVED.md, `> ..`, have
-to be in a doc comment of crates/*/src.
+and a file's name that of a file. Each name after the word "clause", in the crates' roots too, has to be that of a clause
+of some function, and where "of" and a function's name follow, of one of that name. Quotations of README.md and
+docs/PROVED.md, `> ..`, have to be in a doc comment of crates/*/src.
 
 On Rust's pages each word of a guarantee has to be a public item's, or on docs/CONTRACTS.md; a law has its page's name.
 
@@ -245,7 +244,8 @@ LAWS = """# Laws
 <!-- Written by tools/check_quotes.py --write, from the comments of the laws. -->
 
 A law is a theorem about many calls, or about a definition. It is a public function that does nothing, and is called for
-its contract. [PROVED](PROVED.md) says which of them to read first, and [CALLING](CALLING.md) how they are called.
+its contract. [PROVED](PROVED.md) says which of them to read first. The first
+comment of `crates/NAME/src/lib.rt` says how those of a crate are called.
 Names in parentheses are clauses of the law.
 """
 
@@ -267,27 +267,7 @@ def laws_page():
     return "\n".join(parts)
 
 
-CALLING = """# Calling these crates from a proof
-
-<!-- Written by tools/check_quotes.py --write, from the comments of the crates' roots, crates/*/src/lib.rt. -->
-
-For those who prove code over the crates in Rattle. [CONTRACTS](CONTRACTS.md) explains the signs, [the
-guide](GUIDE.md#words) the words, and [laws](laws.md) has each law. After most calls the prover knows the new state,
-with no file in your `proofs/`. This page says what it doesn't know, and which call or law to write before.
-"""
-
-
-def calling_page():
-    """The text of docs/CALLING.md."""
-    parts = [CALLING]
-    for crate in ("net_ring", "net_packets", "net_assembler", "net_base", "net_receiver"):
-        root = re.match(r"(?://!.*\n)+", (ROOT / f"crates/{crate}/src/lib.rt").read_text())[0]
-        said = re.sub(r"^//! ?", "", root, flags=re.M).split("# Calling from a proof: ", 1)[1]
-        parts.append("## " + re.sub(r"^## ", "### ", said, flags=re.M))
-    return "\n".join(parts)
-
-
-WRITTEN = {ROOT / "docs/laws.md": laws_page, ROOT / "docs/CALLING.md": calling_page}
+WRITTEN = {ROOT / "docs/laws.md": laws_page}
 
 
 def main():
@@ -302,6 +282,7 @@ def main():
     looked = {page: (quoted, linked, cited, named, said, counted, clear) for page in pages}
     looked |= {page: (linked,) for page in sorted(generated)}
     looked |= {path: (exampled,) for path in sorted(ROOT.glob("crates/*/src/**/*.rt"))}
+    looked |= {path: (exampled, cited) for path in sorted(ROOT.glob("crates/*/src/lib.rt"))}
     looked |= {path: (shown,) for folder in PACKAGES.values() for path in sorted((ROOT / folder).glob("**/*.rs"))}
     wrong = []
     for path, checks in looked.items():

@@ -15,22 +15,6 @@
 //! A `Loopback` has a `medium` and a list `frames`, the next one first. A contract sees a device of your own through
 //! ghost members, relations on its states, which `src/phy/device.rt` explains. `taken`, `sent`, `abilities`, and
 //! `bytes` of its `RxToken`, must be stated. Both tokens are `Drop`.
-//!
-//! ## Rattle beside Rust
-//!
-//! Not in Rattle: cargo features, logging, `#[non_exhaustive]`, std's clocks. Otherwise than in smoltcp and the
-//! Cargo crate:
-//!
-//! - `clone` returns a `Result`. Only `Loopback`, `execute`, `replay` and `net_bench_lib` take memory, and say if it
-//!   is refused.
-//! - Values that a refusal drops, headers, tokens and the closure of `Device::send`, have the bound `Drop`.
-//! - Storage arguments are a `ManagedSlice` of this crate, and `Instant::from_micros` and the like take an `i64`.
-//! - The result of a closure of a `_with` call may not borrow the element.
-//! - Tokens are owned, so several can be held at once and spent on any device of the type, and `Device::send` sends.
-//!   `loopback::RxToken` and `loopback::TxToken` are public.
-//! - `Loopback::new` takes any allocator first, and keeps it. `NonZeroU16`, `NonZeroUsize` have `new`, `get` and
-//!   derives.
-//! - `Device` states frames, idleness and room, and `transmit` leaves the device as it was.
 #![tactic(auto)]
 
 pub mod checksum;
