@@ -244,8 +244,8 @@ LAWS = """# Laws
 <!-- Written by tools/check_quotes.py --write, from the comments of the laws. -->
 
 A law is a theorem about many calls, or about a definition. It is a public function that does nothing, and is called for
-its contract. [PROVED](PROVED.md) says which of them to read first. The first comment of `crates/NAME/src/lib.rt` says
-how those of a crate are called. Names in parentheses are clauses of the law.
+its contract. [PROVED](PROVED.md) has the promises that users depend on, with their laws. The first comment of
+`crates/NAME/src/lib.rt` says how those of a crate are called. Names in parentheses are clauses of the law.
 """
 
 
