@@ -42,8 +42,6 @@ ELSEWHERE = {
     "sh c/targets.sh": EMULATORS,
     "sh c/targets.sh --table": EMULATORS,
     "sh examples/endpoint/run.sh": "it wants a TUN device, and takes minutes",
-    "sh rust/net-tcp/examples/endpoint/run.sh --runs": "it wants a TUN device, and takes an hour",
-    "sh compare/peers/run.sh --runs": "it wants lwIP and a TUN device, and takes an hour",
     "cargo cinstall": "it wants cargo-c",
     "rt lemma ..": "a reader gives the words",
     "rt check": "a reader is in a crate's folder",

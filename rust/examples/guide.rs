@@ -54,9 +54,9 @@ fn receiver() {
 
 fn quic() {
     let written = b"the quick brown fox";
-    let [known, settled, held] = &mut [[Run::EMPTY; 8]; 3]; // eight ranges may wait in each
-    let mut sending = SendRanges::new(known, settled);
-    let mut receiving = StreamRanges::new(held, 32);
+    let [acked, lost, waiting] = &mut [[Run::EMPTY; 8]; 3]; // eight ranges may wait in each
+    let mut sending = SendRanges::new(acked, lost);
+    let mut receiving = StreamRanges::new(waiting, 32);
     let mut chunks = BTreeMap::new(); // the bytes that came, by position
     let max_stream_data = 32; // what the receiving side announced
     assert_eq!(sending.write(19), 19);
