@@ -1,6 +1,8 @@
 //! The data structures inside a network stack: byte rings, packet queues, reassembly of segments that arrive out of
 //! order, retransmission, timers and checksums. Calls are proved for every input, except for [some
-//! parts](#what-is-proved). None needs a heap.
+//! parts](#what-is-proved). None needs a heap. The crate needs Rust 1.85, and a target of 32 or 64 bits.
+//!
+//! A segment is a position and some bytes. A [`Receiver`](receiver::Receiver) puts segments in order:
 //!
 //! ```
 //! use net_base::receiver::Receiver;
@@ -9,12 +11,32 @@
 //! let mut receiver = Receiver::<2>::new(&mut storage[..]); // at most two ranges may wait
 //! receiver.keep(4, b"ef")?; // it came early, and waits
 //! receiver.keep(8, b"ij")?; // a second range waits
-//! assert!(receiver.keep(12, b"mn").is_err()); // a third may not: it is refused, and nothing changes
+//! // A third may not: it is refused, and nothing changes.
+//! assert!(receiver.keep(12, b"mn").is_err());
 //! receiver.keep(0, b"abcd")?; // the gap is filled
 //! let mut text = [0; 16];
 //! let count = receiver.read(&mut text);
 //! assert_eq!(&text[..count], b"abcdef");
 //! # Ok::<(), net_base::storage::TooManyHolesError>(())
+//! ```
+//!
+//! A [`SendRanges`](finite::SendRanges) knows which bytes of a QUIC stream are acknowledged, in flight or lost:
+//!
+//! ```
+//! use net_base::finite::SendRanges;
+//! use net_base::storage::Run;
+//!
+//! // Room to remember eight acknowledged ranges, and eight lost ones.
+//! let (mut acked, mut lost) = ([Run::EMPTY; 8], [Run::EMPTY; 8]);
+//! let mut sending = SendRanges::new(&mut acked, &mut lost);
+//! assert_eq!(sending.write(16), 16); // the program keeps the bytes
+//! // The peer takes 16 bytes, and a packet has room for 8.
+//! while let Some(range) = sending.next(16, 8) {
+//!     assert!(sending.mark(range)); // a packet with these bytes is in flight
+//! }
+//! assert!(sending.acknowledge(8..16).is_ok());
+//! assert!(sending.lose(0..8));
+//! assert_eq!(sending.next(16, 8), Some(0..8)); // these bytes are to be sent again
 //! ```
 //!
 //! # Where to begin
@@ -24,13 +46,17 @@
 //! | a queue of bytes, or of other elements | [`RingBuffer`](storage::RingBuffer) |
 //! | a queue of packets, each with a header | [`PacketBuffer`](storage::PacketBuffer) |
 //! | bytes from an interrupt | [`SplitRing`](storage::SplitRing) |
-//! | a stream out of segments | [`Receiver`](receiver::Receiver), [`FiniteReceiver`](finite::FiniteReceiver) if it ends |
+//! | a stream out of segments | [`Receiver`](receiver::Receiver) |
+//! | a stream that ends | [`FiniteReceiver`](finite::FiniteReceiver), [`FiniteSender`](finite::FiniteSender) |
 //! | both sides of a QUIC stream | [`StreamRanges`](finite::StreamRanges), [`SendRanges`](finite::SendRanges) |
-//! | what else a transport needs | [`scoreboard`], [`sequence_number`], [`checksum`] |
 //! | both ends of a TCP connection | the crate `net-tcp`, which is over this one |
 //! | packets out of IP fragments | [`FragmentBuffer`](storage::FragmentBuffer) |
+//! | what a peer's SACK blocks say | [`Scoreboard`](scoreboard::Scoreboard) |
+//! | sequence numbers that wrap | [`SequenceNumber`](sequence_number::SequenceNumber) |
+//! | checksums, times, random ports | [`checksum`], [`time`], [`rand`] |
+//! | frames from a device | [`Device`](phy::Device) |
 //!
-//! `docs/GUIDE.md` of the repository has a program for each, and the order of the calls of a TCP.
+//! `docs/GUIDE.md` of the repository has a program for each task, and the order of the calls of a TCP.
 //!
 //! [`storage`], [`time`], [`rand`] and [`phy`] have the names, signatures and behaviour of
 //! [smoltcp](https://github.com/smoltcp-rs/smoltcp) 0.14.0, except where an item says otherwise. Of [`phy`] there are
@@ -38,36 +64,36 @@
 //!
 //! # What is proved
 //!
-//! The source is written in Rattle, Rust in which each function has a contract. A prover has checked for all arguments
-//! that its body meets the contract. Then the contracts were taken out. A "Source" link opens the text that is left,
-//! whose first line names the file that has them.
-//!
-//! A *law* that a page names is a theorem about many calls, which `docs/laws.md` of the repository explains.
+//! The source is written in Rattle, which is Rust with a contract for each function. A prover has checked for all arguments
+//! that a body meets its contract. Then a script took the contracts out. A "Source" link opens what is left, and its first
+//! line names the file that has the contracts. A *law* that a page names is a theorem about many calls, which
+//! `docs/laws.md` of the repository explains.
 //!
 //! These parts are tested, and not proved: what is printed, conversions of storage, std's clocks, readers and writers,
 //! the memory ordering of a [`SplitRing`](storage::SplitRing), and the traits and devices of [`phy`].
 //!
 //! # Panics
 //!
-//! A call panics if you break what its contract requires of you, also in a release build. Its page says when. In Rattle
-//! the test is shown never to fail if the contract is kept. A sum that doesn't fit panics in every build, too, unless
-//! an item says otherwise.
+//! A call panics, in a release build too, if you break what its page requires. Most calls that take a packet, such as
+//! [`keep`](receiver::ReceiverOver::keep), require nothing, so no packet makes them panic. A sum that doesn't fit panics in
+//! every build, unless an item says otherwise.
 //!
 //! # Guarantees
 //!
-//! A function's page has some clauses of its contract in Rust's words. `old(x)` is x before the call, and `x` what it
-//! is afterwards. Numbers in them have no bound, so sums don't wrap. `docs/CONTRACTS.md` of the repository explains
-//! what isn't a call here.
+//! Under this word a function's page has some statements of its contract. `old(x)` is x before the call, and `x` what it is
+//! afterwards. Numbers in them have no bound, so sums don't wrap. `docs/CONTRACTS.md` of the repository explains what isn't
+//! a call here.
 //!
-//! # Features and targets
+//! # Features
 //!
 //! - `std`, on by default: conversions from and to std's clocks, readers and writers, and `alloc`
 //! - `alloc`: storage may own a vector
 //! - `segmentation-offload`: a field of `PacketMeta`
-//! - `assembler-max-segment-count-..`: a number that a program can name as `N` ([`config`]). Where a type names none,
-//!   `N` is 4.
+//! - `assembler-max-segment-count-1`, and others up to 32: the largest one is
+//!   [`ASSEMBLER_MAX_SEGMENT_COUNT`](config::ASSEMBLER_MAX_SEGMENT_COUNT), which is 4 without any. A program can name it as
+//!   `N`. Where a type names no `N`, it is 4.
 //!
-//! smoltcp's other features that a program of these modules can't leave out are accepted. Targets have 32 or 64 bits.
+//! smoltcp's other features that a program of these modules can't leave out are accepted, and change nothing.
 #![no_std]
 #![cfg_attr(docsrs, feature(doc_cfg))]
 #![forbid(unsafe_code)]

@@ -1,11 +1,10 @@
-//! Both ends of a TCP connection, [`SendingEnd`] with its loss recovery and [`ReceivingEnd`], over the buffers of
-//! [`net_base`], and parts of them: what to do with an arriving segment, the windows of both sides, the time until a
-//! retransmission, and its timer. All is proved for every input, but for conversions, `Debug` and defaults, as the
-//! [crate `net_base`](net_base#what-is-proved) says. No call needs a heap.
+//! Both ends of a TCP connection: a [`SendingEnd`], with its loss recovery, and a [`ReceivingEnd`]. They are over the
+//! buffers of [`net_base`], and need no heap. They are proved for every input, except for conversions, `Debug` and
+//! defaults, as the [crate `net_base`](net_base#what-is-proved) says. The crate needs Rust 1.85.
 //!
-//! They know positions, times and bytes, but no headers, no states of a connection and no clock. How much may be in
-//! flight is the caller's choice. `docs/GUIDE.md` of the repository has the order of their calls. In QUIC the
-//! connection has the timer and finds the losses, so its streams have a [`SendBuffer`](net_base::finite::SendBuffer).
+//! The ends know positions, times and bytes, but no headers, no states of a connection and no clock. How much may be in
+//! flight is the caller's choice. `docs/GUIDE.md` of the repository has the order of their calls. In QUIC the connection
+//! has the timer and finds the losses, so its streams have [`SendRanges`](net_base::finite::SendRanges).
 //!
 //! ```
 //! use net_base::time::{Duration, Instant};
@@ -32,58 +31,20 @@
 //!
 //! # The parts
 //!
-//! ```
-//! use net_tcp::{classify, AdvertisedWindow, Announcement, Arrival, Expiry, PeerWindow};
-//! use net_tcp::{RetransmissionTimeout, RetransmissionTimer, Sack, Segment, SentNumbers, TimeoutBounds};
-//! use net_tcp::Transmission;
-//! use net_base::time::{Duration, Instant};
+//! An end is made of these parts, which can also be used alone:
 //!
-//! // A segment has a part of a window of 10 from 100 on, or it is answered; a probe of a shut window acknowledges.
-//! let text = |seq, bytes| Segment::new(seq, bytes, 0x10);
-//! assert_eq!(classify(100, 10, 10, text(95, 6)), Arrival::Take);
-//! assert_eq!(classify(100, 10, 10, text(95, 5)), Arrival::Answer);
-//! assert_eq!(classify(100, 0, 10, text(100, 1)), Arrival::AcknowledgementOnly);
-//! let advertised = AdvertisedWindow::new(110);
-//! assert_eq!(advertised.classify(100, 10, text(110, 1)), Arrival::Answer);
-//! // One without bytes may be behind by the greatest window: its sender may not know that all below 100 has come.
-//! assert_eq!(classify(100, 0, 10, text(90, 0)), Arrival::AcknowledgementOnly);
-//! assert_eq!(classify(100, 0, 10, text(89, 0)), Arrival::Answer);
-//! // A SYN and a FIN count; with ACK and PSH.
-//! let opening = Segment { seq: 95, len: 7, syn: true, ack: true, rst: false };
-//! assert_eq!(Segment::new(95, 5, 0x1b), opening);
-//! // The peer's window ends at 150, and a probe was sent there: an acknowledgement isn't beyond the window.
-//! let peer_window = PeerWindow::of(Announcement { seq: 0, ack: 150, window: 0 });
-//! let numbers = SentNumbers { first_unacknowledged: 150, sent: 151 };
-//! assert_eq!(peer_window.acknowledgement_number(numbers), 150);
-//! // A round trip of 100 ms, and then a timeout that passes.
-//! let mut bounds = TimeoutBounds::new();
-//! bounds.least = Duration::from_millis(200);
-//! let mut timer = RetransmissionTimeout::default();
-//! timer.acknowledged(bounds, Transmission::Once(Instant::ZERO), Instant::from_millis(100));
-//! assert_eq!(timer.timeout(), Duration::from_millis(300));
-//! timer.expired(bounds);
-//! assert_eq!(timer.timeout(), Duration::from_millis(600));
-//! // Three segments are sent at 0 to a peer that reports blocks, one is acknowledged after 100 ms, and the others
-//! // aren't in time: a probe is due after two more round trips, and the timeout passes when it would have passed
-//! // without it.
-//! let mut timer = RetransmissionTimer::new(Duration::from_secs(1), Sack::Permitted);
-//! for (from, to) in [(0, 10), (10, 20), (20, 30)] {
-//!     timer.sent(bounds, from..to, SentNumbers { first_unacknowledged: 0, sent: from }, Instant::ZERO);
-//! }
-//! let numbers = SentNumbers { first_unacknowledged: 0, sent: 30 };
-//! timer.acknowledged(bounds, numbers, 10, Instant::from_millis(100));
-//! assert_eq!(timer.timeout(), Duration::from_millis(300));
-//! assert_eq!(timer.expires_at(), Some(Instant::from_millis(300)));
-//! assert_eq!(timer.expire(bounds, Instant::from_millis(300)), Some(Expiry::Probe));
-//! assert_eq!(timer.expires_at(), Some(Instant::from_millis(400)));
-//! assert_eq!(timer.expire(bounds, Instant::from_millis(400)), Some(Expiry::Timeout));
-//! assert_eq!(timer.expires_at(), Some(Instant::from_millis(1_000)));
-//! assert_eq!(timer.timeouts(), 1);
-//! ```
+//! | You ask | Take |
+//! |---|---|
+//! | what to do with an arriving segment | [`classify`] |
+//! | how often to answer one that isn't taken | [`AnswerLimit`] |
+//! | which window to announce | [`AdvertisedWindow`] |
+//! | how far the peer lets you send | [`PeerWindow`] |
+//! | when to send again, or to probe | [`RetransmissionTimer`] |
+//! | how long a round trip takes, and a timeout | [`RttEstimate`], [`RetransmissionTimeout`] |
 //!
 //! # Guarantees
 //!
-//! A function's page has some clauses of its contract, as in [net-base](net_base#guarantees).
+//! A function's page has some statements of its contract, as in [net-base](net_base#guarantees).
 //!
 //! # Features
 //!

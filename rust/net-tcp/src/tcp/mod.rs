@@ -108,6 +108,59 @@ impl Default for TimeoutBounds {
 #[cfg(test)]
 mod tests {
     use super::*;
+    use net_base::finite::SentNumbers;
+    use net_base::time::Instant;
+
+    /// Each part, alone.
+    #[test]
+    fn parts() {
+        // A segment has a part of a window of 10 from 100 on, or it is answered; a probe of a shut window acknowledges.
+        let text = |seq, bytes| Segment::new(seq, bytes, 0x10);
+        assert_eq!(classify(100, 10, 10, text(95, 6)), Arrival::Take);
+        assert_eq!(classify(100, 10, 10, text(95, 5)), Arrival::Answer);
+        assert_eq!(classify(100, 0, 10, text(100, 1)), Arrival::AcknowledgementOnly);
+        let advertised = AdvertisedWindow::new(110);
+        assert_eq!(advertised.classify(100, 10, text(110, 1)), Arrival::Answer);
+        // One without bytes may be behind by the greatest window: its sender may not know that all below 100 has come.
+        assert_eq!(classify(100, 0, 10, text(90, 0)), Arrival::AcknowledgementOnly);
+        assert_eq!(classify(100, 0, 10, text(89, 0)), Arrival::Answer);
+        // A SYN and a FIN count; with ACK and PSH.
+        let opening = Segment { seq: 95, len: 7, syn: true, ack: true, rst: false };
+        assert_eq!(Segment::new(95, 5, 0x1b), opening);
+        // The peer's window ends at 150, and a probe was sent there: an acknowledgement isn't beyond the window.
+        let peer_window = PeerWindow::of(Announcement { seq: 0, ack: 150, window: 0 });
+        let numbers = SentNumbers { first_unacknowledged: 150, sent: 151 };
+        assert_eq!(peer_window.acknowledgement_number(numbers), 150);
+        // A round trip of 100 ms, and then a timeout that passes.
+        let mut bounds = TimeoutBounds::new();
+        bounds.least = Duration::from_millis(200);
+        let mut timer = RetransmissionTimeout::default();
+        timer.acknowledged(bounds, Transmission::Once(Instant::ZERO), Instant::from_millis(100));
+        assert_eq!(timer.timeout(), Duration::from_millis(300));
+        timer.expired(bounds);
+        assert_eq!(timer.timeout(), Duration::from_millis(600));
+        // Three segments are sent at 0 to a peer that reports blocks, one is acknowledged after 100 ms, and the others
+        // aren't in time: a probe is due after two more round trips, and the timeout passes when it would have passed
+        // without it.
+        let mut timer = RetransmissionTimer::new(Duration::from_secs(1), Sack::Permitted);
+        for (from, to) in [(0, 10), (10, 20), (20, 30)] {
+            timer.sent(
+                bounds,
+                from..to,
+                SentNumbers { first_unacknowledged: 0, sent: from },
+                Instant::ZERO,
+            );
+        }
+        let numbers = SentNumbers { first_unacknowledged: 0, sent: 30 };
+        timer.acknowledged(bounds, numbers, 10, Instant::from_millis(100));
+        assert_eq!(timer.timeout(), Duration::from_millis(300));
+        assert_eq!(timer.expires_at(), Some(Instant::from_millis(300)));
+        assert_eq!(timer.expire(bounds, Instant::from_millis(300)), Some(Expiry::Probe));
+        assert_eq!(timer.expires_at(), Some(Instant::from_millis(400)));
+        assert_eq!(timer.expire(bounds, Instant::from_millis(400)), Some(Expiry::Timeout));
+        assert_eq!(timer.expires_at(), Some(Instant::from_millis(1_000)));
+        assert_eq!(timer.timeouts(), 1);
+    }
 
     /// Eight times the smoothed time, and four times its variation (RFC 6298, 2). After a sample of 800 ms the
     /// variation is 400 ms. After one of 400 ms more the time is 750 ms, and the variation 400 ms. No sample is above
