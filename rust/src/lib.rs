@@ -62,12 +62,27 @@
 //! [smoltcp](https://github.com/smoltcp-rs/smoltcp) 0.14.0, except where an item says otherwise. Of [`phy`] there are
 //! capabilities, checksums, metadata and a loopback device.
 //!
+//! # Storage
+//!
+//! Types have two kinds of constructors:
+//!
+//! - `new` and `new_at` take storage that is lent or owned: a slice, an array, a `Vec` or a `Box`. `new_at` also takes
+//!   the stream's first position.
+//! - `over` and `over_at`, of a type whose name ends in `Over`, take storage of any type, also your own:
+//!   `ReceiverOver::<_, 8>::over([0; 256])`.
+//!
+//! `N` is how many ranges may wait. Write it with the type: `Receiver::<8>::new(&mut storage)`. A type that you write
+//! without it, as in `let receiver: Receiver = ..`, has N = 4. A receiver whose `N` is 0 doesn't compile.
+//!
+//! `Assembler` and `Scoreboard` have no storage. Their `new()` has room for 4 ranges, as in smoltcp, and
+//! `Assembler::<8>::empty()` has room for 8. A type is `Send` and `Sync` if its storage is.
+//!
 //! # What is proved
 //!
-//! The source is written in Rattle, which is Rust with a contract for each function. A prover has checked for all arguments
-//! that a body meets its contract. Then a script took the contracts out. A "Source" link opens what is left, and its first
-//! line names the file that has the contracts. A *law* that a page names is a theorem about many calls, which
-//! `docs/laws.md` of the repository explains.
+//! The source is written in Rattle, which is Rust with a contract for each function. A prover has checked for all
+//! arguments that a body meets its contract. Then a script took the contracts out. A "Source" link opens what is left,
+//! and its first line names the file that has the contracts. A *law* that a page names is a theorem about many calls,
+//! which `docs/laws.md` of the repository explains.
 //!
 //! These parts are tested, and not proved: what is printed, conversions of storage, std's clocks, readers and writers,
 //! the memory ordering of a [`SplitRing`](storage::SplitRing), and the traits and devices of [`phy`].
@@ -75,14 +90,14 @@
 //! # Panics
 //!
 //! A call panics, in a release build too, if you break what its page requires. Most calls that take a packet, such as
-//! [`keep`](receiver::ReceiverOver::keep), require nothing, so no packet makes them panic. A sum that doesn't fit panics in
-//! every build, unless an item says otherwise.
+//! [`keep`](receiver::ReceiverOver::keep), require nothing, so no packet makes them panic. A sum that doesn't fit
+//! panics in every build, unless an item says otherwise.
 //!
 //! # Guarantees
 //!
-//! Under this word a function's page has some statements of its contract. `old(x)` is x before the call, and `x` what it is
-//! afterwards. Numbers in them have no bound, so sums don't wrap. `docs/CONTRACTS.md` of the repository explains what isn't
-//! a call here.
+//! Under this word a function's page has some statements of its contract. `old(x)` is x before the call, and `x` what
+//! it is afterwards. Numbers in them have no bound, so sums don't wrap. `docs/CONTRACTS.md` of the repository explains
+//! what isn't a call here.
 //!
 //! # Features
 //!
@@ -90,8 +105,8 @@
 //! - `alloc`: storage may own a vector
 //! - `segmentation-offload`: a field of `PacketMeta`
 //! - `assembler-max-segment-count-1`, and others up to 32: the largest one is
-//!   [`ASSEMBLER_MAX_SEGMENT_COUNT`](config::ASSEMBLER_MAX_SEGMENT_COUNT), which is 4 without any. A program can name it as
-//!   `N`. Where a type names no `N`, it is 4.
+//!   [`ASSEMBLER_MAX_SEGMENT_COUNT`](config::ASSEMBLER_MAX_SEGMENT_COUNT), which is 4 without any. A program can name
+//!   it as `N`.
 //!
 //! smoltcp's other features that a program of these modules can't leave out are accepted, and change nothing.
 #![no_std]
