@@ -54,8 +54,8 @@ fn receiver() {
 
 fn quic() {
     let written = b"the quick brown fox";
-    let [acked, lost, waiting] = &mut [[Run::EMPTY; 8]; 3]; // eight ranges may wait in each
-    let mut sending = SendRanges::new(acked, lost);
+    let [acked, sent, waiting] = &mut [[Run::EMPTY; 8]; 3]; // eight ranges may wait in each
+    let mut sending = SendRanges::new(acked, sent);
     let mut receiving = StreamRanges::new(waiting, 32);
     let mut chunks = BTreeMap::new(); // the bytes that came, by position
     let max_stream_data = 32; // what the receiving side announced

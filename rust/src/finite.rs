@@ -1,8 +1,12 @@
 //! Streams that end, by TCP's FIN or QUIC's final size. (Not in smoltcp.)
 //!
-//! A [`FiniteReceiver`] receives one, and a [`FiniteSender`] keeps its bytes until they are acknowledged in order. A
-//! [`SendBuffer`] also knows which ranges are acknowledged and lost, as the sending side of QUIC needs; a [`SendRanges`] is
-//! that without the bytes.
+//! | Side | The type keeps the bytes | The program keeps them |
+//! |---|---|---|
+//! | receiving | [`FiniteReceiver`]; [`StreamReceiver`], which can grow | [`StreamRanges`] |
+//! | sending, acknowledged in order | [`FiniteSender`] | |
+//! | sending, acknowledged in any order | [`SendBuffer`] | [`SendRanges`] |
+//!
+//! A *held run* is a range of bytes that waits for those before it.
 //!
 //! ```
 //! use net_base::finite::{FiniteReceiver, FiniteSender};
@@ -22,7 +26,8 @@
 //! // What is acknowledged is all five bytes and the end.
 //! assert!(sender.acknowledge(receiver.acknowledged()) && sender.is_closed_and_acknowledged());
 //! let mut text = [0; 9];
-//! assert_eq!((receiver.read(&mut text), &text[..5], receiver.has_read_all()), (5, &b"hello"[..], true));
+//! assert_eq!((receiver.read(&mut text), &text[..5]), (5, &b"hello"[..]));
+//! assert!(receiver.has_read_all());
 //! ```
 //!
 //! Not proved, but tested: conversions of storage, and `Debug`.
@@ -153,7 +158,8 @@ impl<'a> StreamRanges<'a> {
 
 impl<'a> SendRanges<'a> {
     /// Returns what is known of a stream that begins at position 0, as a stream of QUIC does, to which nothing was
-    /// written.
+    /// written. `acknowledged` is room for the ranges that are acknowledged out of order, and `settled` for those that
+    /// were sent after a lost one.
     ///
     /// ```
     /// # use net_base::finite::SendRanges;
@@ -200,6 +206,7 @@ impl<'a> SendRanges<'a> {
 
 impl<'a> SendBuffer<'a> {
     /// Returns a buffer of a stream that begins at position 0, as a stream of QUIC does, to which nothing was written.
+    /// The storages of runs are those of [`SendRanges::new`].
     ///
     /// ```
     /// # use net_base::finite::SendBuffer;

@@ -26,9 +26,9 @@
 //! use net_base::finite::SendRanges;
 //! use net_base::storage::Run;
 //!
-//! // Room to remember eight acknowledged ranges, and eight lost ones.
-//! let (mut acked, mut lost) = ([Run::EMPTY; 8], [Run::EMPTY; 8]);
-//! let mut sending = SendRanges::new(&mut acked, &mut lost);
+//! // Room to remember eight ranges that are acknowledged out of order, and eight that were sent.
+//! let (mut acked, mut sent) = ([Run::EMPTY; 8], [Run::EMPTY; 8]);
+//! let mut sending = SendRanges::new(&mut acked, &mut sent);
 //! assert_eq!(sending.write(16), 16); // the program keeps the bytes
 //! // The peer takes 16 bytes, and a packet has room for 8.
 //! while let Some(range) = sending.next(16, 8) {

@@ -1,5 +1,7 @@
 //! One stream of bytes out of segments that arrive in any order: [`Receiver`]. (Not in smoltcp's lowest layer.)
 //!
+//! A *held run* is a range of bytes that waits for those before it.
+//!
 //! Not proved, but tested: conversions of storage, and `Debug`.
 use core::{fmt, iter};
 

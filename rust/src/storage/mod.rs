@@ -10,9 +10,11 @@
 //! let lent = RingBuffer::new(&mut storage); // or over a slice or a `Vec`
 //! let owned = RingOver::over([0u8; 16]); // an array by value
 //! assert_eq!((lent.window(), owned.window()), (16, 16));
-//! let eight = Assembler::<8>::empty(); // `Assembler::new()` has room for 4 ranges
+//! // `Assembler::new()` has room for 4 ranges.
+//! let eight = Assembler::<8>::empty();
 //! assert!(eight.is_empty());
-//! static SHARED: SplitRing<64> = SplitRing::new(); // what nobody borrows isn't split: both sides call it
+//! // An interrupt writes, and the main loop reads.
+//! static SHARED: SplitRing<64> = SplitRing::new();
 //! assert_eq!((SHARED.write(b"abc"), SHARED.read(&mut [0; 8])), (3, 3));
 //! ```
 //!
