@@ -106,18 +106,18 @@ def counted():
     first = lambda form, path: (re.search(form, (ROOT / path).read_text(), re.M | re.S) or "00")[1]
     yield "Rust {} or later", cargo, [first(r'^rust-version = "(.*?)"', cargo)]
     yield "version {}, and write in Cargo.toml", cargo, [first(r'^version = "(.*?)"', cargo)]
-    for text in ("has to refuse each | {}", "The prover rejects {} [functions]"):
+    for text in ("has to refuse each of {} [wrong", "The prover rejects {} [functions]"):
         yield text, "crates/must-fail.md", [str(count(r"^\| .* \| `.*` \| `", "crates/must-fail.md"))]
     kinds = count(r"^    \w+: (?:\w+::)?play\w*,$", models, "rust/net-tcp/tests/model.rs")
-    yield "tests of Rust, also on ARMv7 | what the pages say | {}", f"src and tests of Rust's packages, {models}", [
+    yield "Some {} tests of Rust", f"src and tests of Rust's packages, {models}", [
         tens(count(r"#\[test\]", *(f"{Path(folder).parent}/{it}/**/*.rs" for folder in PACKAGES.values()
                                    for it in ("src", "tests"))) + kinds)]
     seeds = first(r"unwrap_or.([0-9]+)", "rust/tests/model/beside.rs")
-    yield "random calls of most types, also on ARMv7 | a plain model of the type | {} runs", models, [
+    yield "{} runs of random calls", models, [
         f"{kinds * int(seeds):,}"]
-    yield "here and by an emulator | the build of the kit's compiler | {}", "c/targets/run.py", [f'{int(first(r"^CALLS.*? = ([0-9_]+)", "c/targets/run.py")):,}']
+    yield "{} calls of the C library, here", "c/targets/run.py", [f'{int(first(r"^CALLS.*? = ([0-9_]+)", "c/targets/run.py")):,}']
     seeds, kinds = first(r"SEEDS: u64 = (\d+)", calls), first(r"KINDS: [^=]*; (\d+)\]", calls)
-    for text in ("with its faults mended | {}", "{} sequences of [random calls]"):
+    for text in ("{} random sequences of calls", "{} sequences of [random calls]"):
         yield text, calls, [f"{int(seeds) * int(kinds):,}"]
     for text in ("each function but [{}]", "{} functions, each with its reason"):
         yield text, left, [WORDS[first(r"^== left\n(.*)", left).count(" ~~ ") // 2]]
