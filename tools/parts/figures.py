@@ -14,7 +14,7 @@ from parts.erase_list import PACKAGES
 
 # What no file counts: what is asked for, and versions.
 FIXED = ["32 or 64 bits", "smoltcp 0.14.0", "until 1.0", "Rust 1.87 and Python 3.9", "smoltcp's is 1", "[0BSD]",
-         "segment of 1,460 bytes", "quinn-proto 0.9.2", "sent 0.75 of Linux's MB/s",
+         "1,460 bytes", "quinn-proto 0.9.2", "sent 0.75 of Linux's MB/s",
          "N = 4", "two segments of 16 bytes", "checksum of 40 bytes",
          "first 1,024 they are refused", "round trip of 1 ms", "With 10 % lost",
          "0.75 of Reno's MB/s, with 5 % delayed", "with 20 % delayed"]
@@ -131,7 +131,7 @@ def counted():
         str(sum(len(re.findall(r"`\w+`", names)) for names in re.findall(
             r"^- `\w+`: (.*(?:\n  .*)*)", (ROOT / "docs/std-calls.md").read_text(), re.M)))]
     ram = lambda kind: first(rf"`net_bound_{kind}_` \| (\d+) \|", "docs/C.md")
-    yield "takes {} bytes besides its storage, both ends of a connection {} bytes, and all code of the C library {}", "docs/C.md", [
+    yield "takes {} bytes besides its storage, a connection {}, and all code of the C library {}", "docs/C.md", [
         ram("ring"), ram("sending_end"), first(r"^\| `thumbv7em-none-eabi` \| ([\d,]+) \|", "docs/C.md")]
     yield "declares {}.", rattle, [WORDS[count(r'^\s*(?:unsafe )?extern(?: "\w+")? \{', rattle)]]
     yield "{} `unsafe impl`", rattle, [WORDS[count(r"^\s*unsafe impl\b", rattle)]]
