@@ -58,7 +58,7 @@ def measured():
     here, there = (f"{5 * float(count):,.0f}" for count in lent)
     yield "needs {} instructions on x86-64, where smoltcp's ring and assembler need {}", times, [here, there]
     yield "read in place | x86-64 | {} |", times, [here]
-    yield "the same with smoltcp's ring and assembler | x86-64 | {} |", times, [there]
+    yield "smoltcp's ring and assembler do so | x86-64 | {} |", times, [there]
     ratios = [value(row[k + 1]) / value(row[k]) for row in cells(sizes) if len(row) == 6 for k in (2, 4)]
     paths = {row[0]: [*map(value, row[1:])] for row in cells(sizes) if ";" in row[1]}
     ours = [[here / there for here, there in zip(paths[name], paths["smoltcp"])]
