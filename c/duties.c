@@ -41,7 +41,7 @@ int main(void) {
     struct net_base_kept_counts counts;
     struct net_base_finite_receiver receiver = {0};
     void *odd = (uint8_t *)words + 1;
-    TOLD(net_base_ring_enqueue_slice(odd, storage, 16, bytes, 4), 1, "ring_enqueue_slice place");
+    TOLD(net_base_ring_enqueue_slice(odd, storage, 16, bytes, 4), 1, "ring_enqueue_slice ring");
     TOLD(net_base_ring_enqueue_slice(&ring, storage, most, bytes, 4), 1, "ring_enqueue_slice storage");
     TOLD(net_base_ring_enqueue_slice(&ring, storage, 16, storage + 15, 1), 2, "ring_enqueue_slice storage");
     TOLD(net_base_ring_dequeue_slice(&ring, storage + 1, 4, storage, 2), 2, "ring_dequeue_slice storage");
@@ -54,8 +54,8 @@ int main(void) {
     TOLD(net_base_finite_receiver_segment(NULL, storage, 16, runs, 4, 0, bytes, 4, false, &counts), 0,
         "finite_receiver_segment receiver");
     TOLD(net_base_ring_enqueue_slice(&ring, storage, 16, none, 4), 0, "ring_enqueue_slice data");
-    TOLD(net_base_ring_enqueue(NULL, 16, 4), 0, "ring_enqueue place");
-    TOLD(net_bound_ring_enqueue_slice(NULL, bytes, 4), 0, "ring_enqueue_slice place");
+    TOLD(net_base_ring_enqueue(NULL, 16, 4), 0, "ring_enqueue ring");
+    TOLD(net_bound_ring_enqueue_slice(NULL, bytes, 4), 0, "ring_enqueue_slice ring");
     TOLD(net_bound_packets_peek(&bound, NULL), 0, "packets_peek packets");
     TOLD(net_bound_packets_peek(&bound, &first), 9, "");
     TOLD(net_base_ring_enqueue(&ring, 16, 17), 9, "");

@@ -21,7 +21,7 @@
  *   classify, arrived, answer, is_due, is_wanted, announce, acknowledgement, read.
  * - `net_base_sending_end_`: The sending end of a stream as one machine: init, is_sound, open,
  *   is_opening_due, set_nagle_enabled, write, close, acknowledged, expired, take_back,
- *   next_segment, bytes, is_done, expires_at, acknowledgement_number, is_recovering.
+ *   next_segment, bytes, is_done, expires_at, empty_segment_position, is_recovering.
  * - `net_base_answer_limit_`: How often a segment is answered of which nothing is taken: init,
  *   allows.
  * - `net_base_sequence_number_`: Sequence numbers of 32 bits, which wrap, and the positions of 64
@@ -129,76 +129,76 @@
 /** The number of this interface. It is in the name that each function is linked by, so that no
  * library of another version links or loads.
  */
-#define NET_BASE_INTERFACE 7
+#define NET_BASE_INTERFACE 8
 /** @cond */
 #ifdef NET_BASE_PLAIN_NAMES /* without the number, as in a library of another maker */
 #define NET_BASE_LINK(name)
 #elif !defined __GNUC__
-#define net_base_ring_init net_base_7_ring_init
-#define net_base_ring_unallocated net_base_7_ring_unallocated
-#define net_base_ring_allocated net_base_7_ring_allocated
-#define net_base_ring_enqueue net_base_7_ring_enqueue
-#define net_base_ring_dequeue net_base_7_ring_dequeue
-#define net_base_ring_enqueue_slice net_base_7_ring_enqueue_slice
-#define net_base_ring_dequeue_slice net_base_7_ring_dequeue_slice
-#define net_base_packets_init net_base_7_packets_init
-#define net_base_packets_shorten_last net_base_7_packets_shorten_last
-#define net_base_packets_enqueue net_base_7_packets_enqueue
-#define net_base_packets_dequeue net_base_7_packets_dequeue
-#define net_base_packets_peek net_base_7_packets_peek
-#define net_base_fragments_init net_base_7_fragments_init
-#define net_base_fragments_is_sound net_base_7_fragments_is_sound
-#define net_base_fragments_set_total_size net_base_7_fragments_set_total_size
-#define net_base_fragments_add net_base_7_fragments_add
-#define net_base_fragments_differs net_base_7_fragments_differs
-#define net_base_fragments_complete net_base_7_fragments_complete
-#define net_base_parts_sum_init net_base_7_parts_sum_init
-#define net_base_parts_sum_add net_base_7_parts_sum_add
-#define net_base_parts_sum_checksum net_base_7_parts_sum_checksum
-#define net_base_finite_receiver_init net_base_7_finite_receiver_init
-#define net_base_finite_receiver_is_sound net_base_7_finite_receiver_is_sound
-#define net_base_finite_receiver_can_end net_base_7_finite_receiver_can_end
-#define net_base_finite_receiver_acknowledged net_base_7_finite_receiver_acknowledged
-#define net_base_finite_receiver_has_read_all net_base_7_finite_receiver_has_read_all
-#define net_base_finite_receiver_read net_base_7_finite_receiver_read
-#define net_base_finite_receiver_remove net_base_7_finite_receiver_remove
-#define net_base_finite_receiver_segment net_base_7_finite_receiver_segment
-#define net_base_finite_receiver_window_end net_base_7_finite_receiver_window_end
-#define net_base_receiving_end_init net_base_7_receiving_end_init
-#define net_base_receiving_end_is_sound net_base_7_receiving_end_is_sound
-#define net_base_receiving_end_open net_base_7_receiving_end_open
-#define net_base_receiving_end_classify net_base_7_receiving_end_classify
-#define net_base_receiving_end_arrived net_base_7_receiving_end_arrived
-#define net_base_receiving_end_answer net_base_7_receiving_end_answer
-#define net_base_receiving_end_is_due net_base_7_receiving_end_is_due
-#define net_base_receiving_end_is_wanted net_base_7_receiving_end_is_wanted
-#define net_base_receiving_end_announce net_base_7_receiving_end_announce
-#define net_base_receiving_end_acknowledgement net_base_7_receiving_end_acknowledgement
-#define net_base_receiving_end_read net_base_7_receiving_end_read
-#define net_base_sending_end_init net_base_7_sending_end_init
-#define net_base_sending_end_is_sound net_base_7_sending_end_is_sound
-#define net_base_sending_end_open net_base_7_sending_end_open
-#define net_base_sending_end_is_opening_due net_base_7_sending_end_is_opening_due
-#define net_base_sending_end_set_nagle_enabled net_base_7_sending_end_set_nagle_enabled
-#define net_base_sending_end_write net_base_7_sending_end_write
-#define net_base_sending_end_close net_base_7_sending_end_close
-#define net_base_sending_end_acknowledged net_base_7_sending_end_acknowledged
-#define net_base_sending_end_expired net_base_7_sending_end_expired
-#define net_base_sending_end_take_back net_base_7_sending_end_take_back
-#define net_base_sending_end_next_segment net_base_7_sending_end_next_segment
-#define net_base_sending_end_bytes net_base_7_sending_end_bytes
-#define net_base_sending_end_is_done net_base_7_sending_end_is_done
-#define net_base_sending_end_expires_at net_base_7_sending_end_expires_at
-#define net_base_sending_end_acknowledgement_number net_base_7_sending_end_acknowledgement_number
-#define net_base_sending_end_is_recovering net_base_7_sending_end_is_recovering
-#define net_base_answer_limit_init net_base_7_answer_limit_init
-#define net_base_answer_limit_allows net_base_7_answer_limit_allows
-#define net_base_sequence_number_position net_base_7_sequence_number_position
+#define net_base_ring_init net_base_8_ring_init
+#define net_base_ring_unallocated net_base_8_ring_unallocated
+#define net_base_ring_allocated net_base_8_ring_allocated
+#define net_base_ring_enqueue net_base_8_ring_enqueue
+#define net_base_ring_dequeue net_base_8_ring_dequeue
+#define net_base_ring_enqueue_slice net_base_8_ring_enqueue_slice
+#define net_base_ring_dequeue_slice net_base_8_ring_dequeue_slice
+#define net_base_packets_init net_base_8_packets_init
+#define net_base_packets_shorten_last net_base_8_packets_shorten_last
+#define net_base_packets_enqueue net_base_8_packets_enqueue
+#define net_base_packets_dequeue net_base_8_packets_dequeue
+#define net_base_packets_peek net_base_8_packets_peek
+#define net_base_fragments_init net_base_8_fragments_init
+#define net_base_fragments_is_sound net_base_8_fragments_is_sound
+#define net_base_fragments_set_total_size net_base_8_fragments_set_total_size
+#define net_base_fragments_add net_base_8_fragments_add
+#define net_base_fragments_differs net_base_8_fragments_differs
+#define net_base_fragments_complete net_base_8_fragments_complete
+#define net_base_parts_sum_init net_base_8_parts_sum_init
+#define net_base_parts_sum_add net_base_8_parts_sum_add
+#define net_base_parts_sum_checksum net_base_8_parts_sum_checksum
+#define net_base_finite_receiver_init net_base_8_finite_receiver_init
+#define net_base_finite_receiver_is_sound net_base_8_finite_receiver_is_sound
+#define net_base_finite_receiver_can_end net_base_8_finite_receiver_can_end
+#define net_base_finite_receiver_acknowledged net_base_8_finite_receiver_acknowledged
+#define net_base_finite_receiver_has_read_all net_base_8_finite_receiver_has_read_all
+#define net_base_finite_receiver_read net_base_8_finite_receiver_read
+#define net_base_finite_receiver_remove net_base_8_finite_receiver_remove
+#define net_base_finite_receiver_segment net_base_8_finite_receiver_segment
+#define net_base_finite_receiver_window_end net_base_8_finite_receiver_window_end
+#define net_base_receiving_end_init net_base_8_receiving_end_init
+#define net_base_receiving_end_is_sound net_base_8_receiving_end_is_sound
+#define net_base_receiving_end_open net_base_8_receiving_end_open
+#define net_base_receiving_end_classify net_base_8_receiving_end_classify
+#define net_base_receiving_end_arrived net_base_8_receiving_end_arrived
+#define net_base_receiving_end_answer net_base_8_receiving_end_answer
+#define net_base_receiving_end_is_due net_base_8_receiving_end_is_due
+#define net_base_receiving_end_is_wanted net_base_8_receiving_end_is_wanted
+#define net_base_receiving_end_announce net_base_8_receiving_end_announce
+#define net_base_receiving_end_acknowledgement net_base_8_receiving_end_acknowledgement
+#define net_base_receiving_end_read net_base_8_receiving_end_read
+#define net_base_sending_end_init net_base_8_sending_end_init
+#define net_base_sending_end_is_sound net_base_8_sending_end_is_sound
+#define net_base_sending_end_open net_base_8_sending_end_open
+#define net_base_sending_end_is_opening_due net_base_8_sending_end_is_opening_due
+#define net_base_sending_end_set_nagle_enabled net_base_8_sending_end_set_nagle_enabled
+#define net_base_sending_end_write net_base_8_sending_end_write
+#define net_base_sending_end_close net_base_8_sending_end_close
+#define net_base_sending_end_acknowledged net_base_8_sending_end_acknowledged
+#define net_base_sending_end_expired net_base_8_sending_end_expired
+#define net_base_sending_end_take_back net_base_8_sending_end_take_back
+#define net_base_sending_end_next_segment net_base_8_sending_end_next_segment
+#define net_base_sending_end_bytes net_base_8_sending_end_bytes
+#define net_base_sending_end_is_done net_base_8_sending_end_is_done
+#define net_base_sending_end_expires_at net_base_8_sending_end_expires_at
+#define net_base_sending_end_empty_segment_position net_base_8_sending_end_empty_segment_position
+#define net_base_sending_end_is_recovering net_base_8_sending_end_is_recovering
+#define net_base_answer_limit_init net_base_8_answer_limit_init
+#define net_base_answer_limit_allows net_base_8_answer_limit_allows
+#define net_base_sequence_number_position net_base_8_sequence_number_position
 #define NET_BASE_LINK(name)
 #else
 #define NET_BASE_TEXT(text) #text
 #define NET_BASE_LABEL(before, name) __asm__(NET_BASE_TEXT(before) name)
-#define NET_BASE_LINK(name) NET_BASE_LABEL(__USER_LABEL_PREFIX__, "net_base_7_" #name)
+#define NET_BASE_LINK(name) NET_BASE_LABEL(__USER_LABEL_PREFIX__, "net_base_8_" #name)
 #endif
 /** @endcond */
 
@@ -380,58 +380,58 @@ struct net_base_span {
     size_t contiguous; /**< How many of them are contiguous, from the first one on. */
 };
 
-/** Makes `place` the head of an empty ring, which is sound for each storage. */
-void net_base_ring_init(struct net_base_ring *place) NET_BASE_LINK(ring_init);
+/** Makes `ring` the head of an empty ring, which is sound for each storage. */
+void net_base_ring_init(struct net_base_ring *ring) NET_BASE_LINK(ring_init);
 
 /** Returns where at most `size` free elements are, from the one at `offset` on; none if `offset` is
  * past the free elements.
  *
- * It is refused if `place` isn't that of a ring of `capacity` elements: `from` is `NET_BASE_NONE`,
- * `count` and `contiguous` are 0. */
+ * It is refused if `ring` isn't the head of a ring of `capacity` elements: `from` is
+ * `NET_BASE_NONE`, `count` and `contiguous` are 0. */
 NET_BASE_MUST_USE struct net_base_span net_base_ring_unallocated(
-    const struct net_base_ring *place, size_t capacity, size_t offset, size_t size)
+    const struct net_base_ring *ring, size_t capacity, size_t offset, size_t size)
     NET_BASE_LINK(ring_unallocated);
 
 /** Returns where at most `size` elements of the queue are, from the one at `offset` on; none if
  * `offset` is past the queue.
  *
- * It is refused if `place` isn't that of a ring of `capacity` elements: `from` is `NET_BASE_NONE`,
- * `count` and `contiguous` are 0. */
+ * It is refused if `ring` isn't the head of a ring of `capacity` elements: `from` is
+ * `NET_BASE_NONE`, `count` and `contiguous` are 0. */
 NET_BASE_MUST_USE struct net_base_span net_base_ring_allocated(
-    const struct net_base_ring *place, size_t capacity, size_t offset, size_t size)
+    const struct net_base_ring *ring, size_t capacity, size_t offset, size_t size)
     NET_BASE_LINK(ring_allocated);
 
 /** Enqueues `count` elements, with what the storage has there.
  *
- * It is refused if `place` isn't that of a ring of `capacity` elements, or if fewer than `count`
- * elements are free: false, and nothing changes. */
+ * It is refused if `ring` isn't the head of a ring of `capacity` elements, or if fewer than
+ * `count` elements are free: false, and nothing changes. */
 NET_BASE_MUST_USE bool net_base_ring_enqueue(
-    struct net_base_ring *place, size_t capacity, size_t count) NET_BASE_LINK(ring_enqueue);
+    struct net_base_ring *ring, size_t capacity, size_t count) NET_BASE_LINK(ring_enqueue);
 
 /** Dequeues `count` elements.
  *
- * It is refused if `place` isn't that of a ring of `capacity` elements, or if fewer than `count`
- * elements are queued: false, and nothing changes. */
+ * It is refused if `ring` isn't the head of a ring of `capacity` elements, or if fewer than
+ * `count` elements are queued: false, and nothing changes. */
 NET_BASE_MUST_USE bool net_base_ring_dequeue(
-    struct net_base_ring *place, size_t capacity, size_t count) NET_BASE_LINK(ring_dequeue);
+    struct net_base_ring *ring, size_t capacity, size_t count) NET_BASE_LINK(ring_dequeue);
 
 /** Enqueues as many elements of `data` as there is room for, and returns how many. An empty ring
  * first moves its read index to the storage's beginning, even if nothing is enqueued.
  *
- * It is refused if `place` isn't that of a ring of `storage_length` elements: `NET_BASE_NONE`, and
- * nothing changes. */
+ * It is refused if `ring` isn't the head of a ring of `storage_length` elements: `NET_BASE_NONE`,
+ * and nothing changes. */
 NET_BASE_MUST_USE size_t net_base_ring_enqueue_slice(
-    struct net_base_ring *NET_BASE_RESTRICT place, uint8_t *NET_BASE_RESTRICT storage,
+    struct net_base_ring *NET_BASE_RESTRICT ring, uint8_t *NET_BASE_RESTRICT storage,
     size_t storage_length, const uint8_t *NET_BASE_RESTRICT data, size_t data_length)
     NET_BASE_LINK(ring_enqueue_slice);
 
 /** Dequeues as many elements as `into` has room for and are queued, copies them to the beginning of
  * `into`, and returns how many. The rest of `into` stays as it is.
  *
- * It is refused if `place` isn't that of a ring of `storage_length` elements: `NET_BASE_NONE`, and
- * nothing changes. */
+ * It is refused if `ring` isn't the head of a ring of `storage_length` elements: `NET_BASE_NONE`,
+ * and nothing changes. */
 NET_BASE_MUST_USE size_t net_base_ring_dequeue_slice(
-    struct net_base_ring *NET_BASE_RESTRICT place, const uint8_t *NET_BASE_RESTRICT storage,
+    struct net_base_ring *NET_BASE_RESTRICT ring, const uint8_t *NET_BASE_RESTRICT storage,
     size_t storage_length, uint8_t *NET_BASE_RESTRICT into, size_t into_length)
     NET_BASE_LINK(ring_dequeue_slice);
 
@@ -1097,10 +1097,10 @@ struct net_base_timeout_bounds {
  * A head of zeros is new, of a stream that begins at position 0, whose first timeout is 1 second
  * within the RFC's bounds. All of an end is in its head but the bytes: at most 16 runs are
  * remembered of what was reported, enough for windows of up to 256 KiB on paths that reorder.
- * `net_base_sending_end_write` alone writes into the storage; of the others each that is passed
- * one needs only its length. Where the peer's SYN has come, `net_base_sending_end_open` begins
- * with it. Each segment that is taken is acknowledged by `net_base_sending_end_acknowledged`. What
- * is to be sent, `net_base_sending_end_next_segment` says, until it says that nothing is, and
+ * `net_base_sending_end_write` alone is passed the storage: others need at most its capacity.
+ * Where the peer's SYN has come, `net_base_sending_end_open` begins with it. Each segment that is
+ * taken is acknowledged by `net_base_sending_end_acknowledged`. What is to be sent,
+ * `net_base_sending_end_next_segment` says, until it says that nothing is, and
  * `net_base_sending_end_bytes` where it is. At the moment of `net_base_sending_end_expires_at` the
  * timer is asked by `net_base_sending_end_expired`.
  *
@@ -1171,24 +1171,25 @@ NET_BASE_MUST_USE bool net_base_sending_end_init(
 NET_BASE_MUST_USE bool net_base_sending_end_is_sound(
     const struct net_base_sending_end *end, size_t capacity) NET_BASE_LINK(sending_end_is_sound);
 
-/** Begins with a peer, whose SYN announced a window (`it`), how many bytes a segment may have, and
- * whether it reports blocks (SACK): one that doesn't couldn't answer a probe, and is sent none.
- * What was written stays. It is done once, before anything is sent; a second time begins with
- * another peer, and the timer runs if something is in flight.
+/** Begins with a peer, whose SYN announced a window, how many bytes a segment may have, and whether
+ * it reports blocks (SACK): one that doesn't couldn't answer a probe, and is sent none.
+ * `announcement.ack` is the own first position, even if the SYN has no ACK. What was written
+ * stays. It is done once, before anything is sent; a second time begins with another peer, and the
+ * timer runs if something is in flight.
  *
- * It is refused if `end` isn't sound over `storage_length` bytes: false, and nothing changes. */
+ * It is refused if `end` isn't sound over `capacity` bytes: false, and nothing changes. */
 NET_BASE_MUST_USE bool net_base_sending_end_open(
-    struct net_base_sending_end *NET_BASE_RESTRICT end, const uint8_t *NET_BASE_RESTRICT storage,
-    size_t storage_length, const struct net_base_announcement *NET_BASE_RESTRICT it,
-    size_t segment_size, bool reports, int64_t now) NET_BASE_LINK(sending_end_open);
+    struct net_base_sending_end *NET_BASE_RESTRICT end, size_t capacity,
+    const struct net_base_announcement *NET_BASE_RESTRICT announcement, size_t segment_size,
+    bool reports, int64_t now) NET_BASE_LINK(sending_end_open);
 
 /** Returns whether a SYN is to be sent now, the first one or one after a timeout, and starts the
  * timer for the next. Ask it only until something is acknowledged, at which it doesn't look.
  *
- * It is refused if `end` isn't sound over `storage_length` bytes: false, and nothing changes. */
+ * It is refused if `end` isn't sound over `capacity` bytes: false, and nothing changes. */
 NET_BASE_MUST_USE bool net_base_sending_end_is_opening_due(
-    struct net_base_sending_end *NET_BASE_RESTRICT end, const uint8_t *NET_BASE_RESTRICT storage,
-    size_t storage_length, int64_t now) NET_BASE_LINK(sending_end_is_opening_due);
+    struct net_base_sending_end *end, size_t capacity, int64_t now)
+    NET_BASE_LINK(sending_end_is_opening_due);
 
 /** Enables Nagle's rule (RFC 9293, 3.7.4), or disables it. While something that was sent isn't
  * acknowledged, less than a whole segment waits by it, unless the stream is closed or the timer
@@ -1209,47 +1210,45 @@ NET_BASE_MUST_USE size_t net_base_sending_end_write(
 /** Ends the stream after what was written. A second call changes nothing. */
 void net_base_sending_end_close(struct net_base_sending_end *end) NET_BASE_LINK(sending_end_close);
 
-/** Takes what a segment acknowledges and announces (`it`), and the blocks that it reports, as
- * positions. It `is_empty` if it has no byte and no FIN. Blocks of what wasn't sent say nothing.
+/** Takes what a segment acknowledges and announces, and the blocks that it reports, as positions.
+ * It `is_empty` if it has no byte and no FIN. Blocks of what wasn't sent say nothing.
  *
- * It is refused if `end` isn't sound over `storage_length` bytes, or if there are more than 4
- * blocks: `count` is 0, `reports` and `begins` are false, the status is
- * `NET_BASE_ACKNOWLEDGED_REFUSED`, and nothing changes. */
+ * It is refused if `end` isn't sound over `capacity` bytes, or if there are more than 4 blocks:
+ * `count` is 0, `reports` and `begins` are false, the status is `NET_BASE_ACKNOWLEDGED_REFUSED`,
+ * and nothing changes. */
 NET_BASE_MUST_USE struct net_base_taken_acknowledgement net_base_sending_end_acknowledged(
-    struct net_base_sending_end *NET_BASE_RESTRICT end, const uint8_t *NET_BASE_RESTRICT storage,
-    size_t storage_length, const struct net_base_announcement *NET_BASE_RESTRICT it,
+    struct net_base_sending_end *NET_BASE_RESTRICT end, size_t capacity,
+    const struct net_base_announcement *NET_BASE_RESTRICT announcement,
     const struct net_base_held_run *NET_BASE_RESTRICT blocks, size_t blocks_length, bool is_empty,
     int64_t now) NET_BASE_LINK(sending_end_acknowledged);
 
 /** Returns whether the timer has ended, and what that means. If it has, it starts again, and
  * `net_base_sending_end_next_segment` says what is then to be sent.
  *
- * It is refused if `end` isn't sound over `storage_length` bytes: `begins` is false, the status is
+ * It is refused if `end` isn't sound over `capacity` bytes: `begins` is false, the status is
  * `NET_BASE_EXPIRED_REFUSED`, and nothing changes. */
 NET_BASE_MUST_USE struct net_base_ended_timer net_base_sending_end_expired(
-    struct net_base_sending_end *NET_BASE_RESTRICT end, const uint8_t *NET_BASE_RESTRICT storage,
-    size_t storage_length, int64_t now) NET_BASE_LINK(sending_end_expired);
+    struct net_base_sending_end *end, size_t capacity, int64_t now)
+    NET_BASE_LINK(sending_end_expired);
 
 /** Returns whether the last recovery was for nothing, and ends it then: nothing that was found lost
  * is missing but what was sent again, and all that was sent again came twice (RFC 3708). Then the
  * congestion window may be what it was when the recovery began. Ask it after each acknowledgement,
  * an old one too. It is true once: not before another recovery begins.
  *
- * It is refused if `end` isn't sound over `storage_length` bytes: false, and nothing changes. */
+ * It is refused if `end` isn't sound over `capacity` bytes: false, and nothing changes. */
 NET_BASE_MUST_USE bool net_base_sending_end_take_back(
-    struct net_base_sending_end *NET_BASE_RESTRICT end, const uint8_t *NET_BASE_RESTRICT storage,
-    size_t storage_length) NET_BASE_LINK(sending_end_take_back);
+    struct net_base_sending_end *end, size_t capacity) NET_BASE_LINK(sending_end_take_back);
 
 /** Returns the segment that is to be sent now, and takes notice that it is: if the peer's window
  * and the congestion window have room for one, or as a probe. `congestion_window` is how many
  * bytes may be in flight. Less than a whole segment may be held back (RFC 9293, 3.8.6.2.1, and
  * Nagle's rule).
  *
- * It is refused if `end` isn't sound over `storage_length` bytes: `position` and `end` are 0,
- * `is_again` is false, the status is `NET_BASE_OUTGOING_REFUSED`, and nothing changes. */
+ * It is refused if `end` isn't sound over `capacity` bytes: `position` and `end` are 0, `is_again`
+ * is false, the status is `NET_BASE_OUTGOING_REFUSED`, and nothing changes. */
 NET_BASE_MUST_USE struct net_base_outgoing_segment net_base_sending_end_next_segment(
-    struct net_base_sending_end *NET_BASE_RESTRICT end, const uint8_t *NET_BASE_RESTRICT storage,
-    size_t storage_length, uint64_t congestion_window, int64_t now)
+    struct net_base_sending_end *end, size_t capacity, uint64_t congestion_window, int64_t now)
     NET_BASE_LINK(sending_end_next_segment);
 
 /** Returns where the bytes of a segment from `position` on are, whose numbers are below `limit`, in
@@ -1272,11 +1271,12 @@ NET_BASE_MUST_USE bool net_base_sending_end_expires_at(
     const struct net_base_sending_end *NET_BASE_RESTRICT end, int64_t *NET_BASE_RESTRICT moment)
     NET_BASE_LINK(sending_end_expires_at);
 
-/** Returns the number of a segment without positions.
+/** Returns the position that an empty segment has, as an acknowledgement alone: its sequence
+ * number.
  *
  * It is refused if the first number that isn't acknowledged doesn't fit 64 bits: `UINT64_MAX`. */
-NET_BASE_MUST_USE uint64_t net_base_sending_end_acknowledgement_number(
-    const struct net_base_sending_end *end) NET_BASE_LINK(sending_end_acknowledgement_number);
+NET_BASE_MUST_USE uint64_t net_base_sending_end_empty_segment_position(
+    const struct net_base_sending_end *end) NET_BASE_LINK(sending_end_empty_segment_position);
 
 /** Returns whether a recovery lasts.
  *
@@ -1379,13 +1379,8 @@ NET_BASE_SLICES(finite_receiver_read, NET_BASE_READS(2, 3) NET_BASE_WRITES(4, 5)
 NET_BASE_SLICES(finite_receiver_segment, NET_BASE_WRITES(2, 3) NET_BASE_WRITES(4, 5) NET_BASE_READS(7, 8))
 NET_BASE_SLICES(receiving_end_arrived, NET_BASE_WRITES(2, 3) NET_BASE_READS(5, 6))
 NET_BASE_SLICES(receiving_end_read, NET_BASE_READS(2, 3) NET_BASE_WRITES(4, 5))
-NET_BASE_SLICES(sending_end_open, NET_BASE_READS(2, 3))
-NET_BASE_SLICES(sending_end_is_opening_due, NET_BASE_READS(2, 3))
 NET_BASE_SLICES(sending_end_write, NET_BASE_WRITES(2, 3) NET_BASE_READS(4, 5))
-NET_BASE_SLICES(sending_end_acknowledged, NET_BASE_READS(2, 3) NET_BASE_READS(5, 6))
-NET_BASE_SLICES(sending_end_expired, NET_BASE_READS(2, 3))
-NET_BASE_SLICES(sending_end_take_back, NET_BASE_READS(2, 3))
-NET_BASE_SLICES(sending_end_next_segment, NET_BASE_READS(2, 3))
+NET_BASE_SLICES(sending_end_acknowledged, NET_BASE_READS(4, 5))
 #pragma GCC diagnostic pop
 #endif
 #endif

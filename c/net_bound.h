@@ -319,14 +319,14 @@ NET_BASE_MUST_USE static inline bool net_bound_sending_end_is_sound(
     return net_base_sending_end_is_sound(NET_BOUND_HEAD(end), NET_BOUND_CAPACITY(end));
 }
 NET_BASE_MUST_USE static inline bool net_bound_sending_end_open(
-    struct net_bound_sending_end *end, const struct net_base_announcement *it, size_t segment_size,
-    bool reports, int64_t now) {
-    return net_base_sending_end_open(NET_BOUND_HEAD(end), NET_BOUND_STORAGE(end), it, segment_size,
-        reports, now);
+    struct net_bound_sending_end *end, const struct net_base_announcement *announcement,
+    size_t segment_size, bool reports, int64_t now) {
+    return net_base_sending_end_open(NET_BOUND_HEAD(end), NET_BOUND_CAPACITY(end), announcement,
+        segment_size, reports, now);
 }
 NET_BASE_MUST_USE static inline bool net_bound_sending_end_is_opening_due(
     struct net_bound_sending_end *end, int64_t now) {
-    return net_base_sending_end_is_opening_due(NET_BOUND_HEAD(end), NET_BOUND_STORAGE(end), now);
+    return net_base_sending_end_is_opening_due(NET_BOUND_HEAD(end), NET_BOUND_CAPACITY(end), now);
 }
 static inline void net_bound_sending_end_set_nagle_enabled(
     struct net_bound_sending_end *end, bool enabled) {
@@ -342,22 +342,22 @@ static inline void net_bound_sending_end_close(struct net_bound_sending_end *end
 }
 NET_BASE_MUST_USE static inline struct net_base_taken_acknowledgement
 net_bound_sending_end_acknowledged(
-    struct net_bound_sending_end *end, const struct net_base_announcement *it,
+    struct net_bound_sending_end *end, const struct net_base_announcement *announcement,
     const struct net_base_held_run *blocks, size_t blocks_length, bool is_empty, int64_t now) {
-    return net_base_sending_end_acknowledged(NET_BOUND_HEAD(end), NET_BOUND_STORAGE(end), it,
-        blocks, blocks_length, is_empty, now);
+    return net_base_sending_end_acknowledged(NET_BOUND_HEAD(end), NET_BOUND_CAPACITY(end),
+        announcement, blocks, blocks_length, is_empty, now);
 }
 NET_BASE_MUST_USE static inline struct net_base_ended_timer net_bound_sending_end_expired(
     struct net_bound_sending_end *end, int64_t now) {
-    return net_base_sending_end_expired(NET_BOUND_HEAD(end), NET_BOUND_STORAGE(end), now);
+    return net_base_sending_end_expired(NET_BOUND_HEAD(end), NET_BOUND_CAPACITY(end), now);
 }
 NET_BASE_MUST_USE static inline bool net_bound_sending_end_take_back(
     struct net_bound_sending_end *end) {
-    return net_base_sending_end_take_back(NET_BOUND_HEAD(end), NET_BOUND_STORAGE(end));
+    return net_base_sending_end_take_back(NET_BOUND_HEAD(end), NET_BOUND_CAPACITY(end));
 }
 NET_BASE_MUST_USE static inline struct net_base_outgoing_segment net_bound_sending_end_next_segment(
     struct net_bound_sending_end *end, uint64_t congestion_window, int64_t now) {
-    return net_base_sending_end_next_segment(NET_BOUND_HEAD(end), NET_BOUND_STORAGE(end),
+    return net_base_sending_end_next_segment(NET_BOUND_HEAD(end), NET_BOUND_CAPACITY(end),
         congestion_window, now);
 }
 NET_BASE_MUST_USE static inline struct net_base_segment_parts net_bound_sending_end_bytes(
@@ -375,9 +375,9 @@ NET_BASE_MUST_USE static inline bool net_bound_sending_end_expires_at(
     const struct net_bound_sending_end *end, int64_t *moment) {
     return net_base_sending_end_expires_at(NET_BOUND_HEAD(end), moment);
 }
-NET_BASE_MUST_USE static inline uint64_t net_bound_sending_end_acknowledgement_number(
+NET_BASE_MUST_USE static inline uint64_t net_bound_sending_end_empty_segment_position(
     const struct net_bound_sending_end *end) {
-    uint64_t number = net_base_sending_end_acknowledgement_number(NET_BOUND_HEAD(end));
+    uint64_t number = net_base_sending_end_empty_segment_position(NET_BOUND_HEAD(end));
     return number == UINT64_MAX ? 0 : number;
 }
 NET_BASE_MUST_USE static inline bool net_bound_sending_end_is_recovering(

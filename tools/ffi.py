@@ -559,11 +559,12 @@ def main():
         for path in filter(None, programs):
             path.write_text(programs[path](library))
         return
-    exports.program(library)  # which stops at a row that is wrong
     header = c_part(library, EXPORTS)
     texts = {HEADER: header, ABI: abi(header), CONFIG: config(), shim.OUT: shim.text(library),
              bound.OUT: bound.text(library), PAGE: page(EXPORTS, PAGE)}
-    sys.exit(put(texts, options.check))
+    stale = put(texts, options.check)
+    exports.program(library)  # which reads the header, and stops at a row that is wrong
+    sys.exit(stale)
 
 
 if __name__ == "__main__":

@@ -43,120 +43,120 @@ passed! { SendingEnd: head.buffer.recovery.has_probe, head.timer.has_estimate, h
 passed! { Acknowledgement, Announcement, AnswerLimit, FiniteReceiverHead, KeptCounts, PacketsHead, RingHead,
         TimeoutBounds, i64, u16, u64, usize }
 
-export! { "net_base_7_ring_init" = net_base_ring_init, (place: new &mut RingHead); }
-export! { "net_base_7_ring_unallocated" = net_base_ring_unallocated, (place: &RingHead, capacity: usize, offset: usize,
+export! { "net_base_8_ring_init" = net_base_ring_init, (ring: new &mut RingHead); }
+export! { "net_base_8_ring_unallocated" = net_base_ring_unallocated, (ring: &RingHead, capacity: usize, offset: usize,
     size: usize) -> Span, else refused_span(); }
-export! { "net_base_7_ring_allocated" = net_base_ring_allocated, (place: &RingHead, capacity: usize, offset: usize,
-    size: usize) -> Span, else refused_span(); }
-export! { "net_base_7_ring_enqueue" = net_base_ring_enqueue, (place: &mut RingHead, capacity: usize, count: usize) ->
+export! { "net_base_8_ring_allocated" = net_base_ring_allocated, (ring: &RingHead, capacity: usize, offset: usize, size:
+    usize) -> Span, else refused_span(); }
+export! { "net_base_8_ring_enqueue" = net_base_ring_enqueue, (ring: &mut RingHead, capacity: usize, count: usize) ->
     bool, else false; }
-export! { "net_base_7_ring_dequeue" = net_base_ring_dequeue, (place: &mut RingHead, capacity: usize, count: usize) ->
+export! { "net_base_8_ring_dequeue" = net_base_ring_dequeue, (ring: &mut RingHead, capacity: usize, count: usize) ->
     bool, else false; }
-export! { "net_base_7_ring_enqueue_slice" = net_base_ring_enqueue_slice, (place: &mut RingHead, storage: &mut [u8],
-    data: &[u8]) -> usize, else no_number(); }
-export! { "net_base_7_ring_dequeue_slice" = net_base_ring_dequeue_slice, (place: &mut RingHead, storage: &[u8], into:
+export! { "net_base_8_ring_enqueue_slice" = net_base_ring_enqueue_slice, (ring: &mut RingHead, storage: &mut [u8], data:
+    &[u8]) -> usize, else no_number(); }
+export! { "net_base_8_ring_dequeue_slice" = net_base_ring_dequeue_slice, (ring: &mut RingHead, storage: &[u8], into:
     &mut [u8]) -> usize, else no_number(); }
-export! { "net_base_7_packets_init" = net_base_packets_init, (packets: new &mut PacketsHead); }
-export! { "net_base_7_packets_shorten_last" = net_base_packets_shorten_last, (packets: &mut PacketsHead, slots: &mut
+export! { "net_base_8_packets_init" = net_base_packets_init, (packets: new &mut PacketsHead); }
+export! { "net_base_8_packets_shorten_last" = net_base_packets_shorten_last, (packets: &mut PacketsHead, slots: &mut
     [PacketSlot], capacity: usize, count: usize) -> bool, else false; }
-export! { "net_base_7_packets_enqueue" = net_base_packets_enqueue, (packets: &mut PacketsHead, slots: &mut [PacketSlot],
+export! { "net_base_8_packets_enqueue" = net_base_packets_enqueue, (packets: &mut PacketsHead, slots: &mut [PacketSlot],
     capacity: usize, size: usize) -> PacketPlace, else refused_packet_place(); }
-export! { "net_base_7_packets_dequeue" = net_base_packets_dequeue, (packets: &mut PacketsHead, slots: &[PacketSlot],
+export! { "net_base_8_packets_dequeue" = net_base_packets_dequeue, (packets: &mut PacketsHead, slots: &[PacketSlot],
     capacity: usize) -> FirstPacket, else refused_first_packet(); }
-export! { "net_base_7_packets_peek" = net_base_packets_peek, (packets: &PacketsHead, slots: &[PacketSlot], capacity:
+export! { "net_base_8_packets_peek" = net_base_packets_peek, (packets: &PacketsHead, slots: &[PacketSlot], capacity:
     usize) -> FirstPacket, else refused_first_packet(); }
-export! { "net_base_7_fragments_init" = net_base_fragments_init, (fragments: new &mut FragmentsHead, expires_at: i64); }
-export! { "net_base_7_fragments_is_sound" = net_base_fragments_is_sound, (fragments: &FragmentsHead, capacity: usize,
+export! { "net_base_8_fragments_init" = net_base_fragments_init, (fragments: new &mut FragmentsHead, expires_at: i64); }
+export! { "net_base_8_fragments_is_sound" = net_base_fragments_is_sound, (fragments: &FragmentsHead, capacity: usize,
     runs: &[Run]) -> bool, else false; }
-export! { "net_base_7_fragments_set_total_size" = net_base_fragments_set_total_size, (fragments: &mut FragmentsHead,
+export! { "net_base_8_fragments_set_total_size" = net_base_fragments_set_total_size, (fragments: &mut FragmentsHead,
     capacity: usize, runs: &[Run], size: usize) -> SizeStatus, else NET_BASE_REFUSED, sound
     net_base_fragments_is_sound(fragments, capacity, runs); }
-export! { "net_base_7_fragments_add" = net_base_fragments_add, (fragments: &mut FragmentsHead, storage: &mut [u8], runs:
+export! { "net_base_8_fragments_add" = net_base_fragments_add, (fragments: &mut FragmentsHead, storage: &mut [u8], runs:
     &mut [Run], offset: usize, data: &[u8]) -> FragmentStatus, else NET_BASE_REFUSED, sound
     net_base_fragments_is_sound(fragments, storage.len(), runs); }
-export! { "net_base_7_fragments_differs" = net_base_fragments_differs, (fragments: &FragmentsHead, storage: &[u8], runs:
+export! { "net_base_8_fragments_differs" = net_base_fragments_differs, (fragments: &FragmentsHead, storage: &[u8], runs:
     &[Run], offset: usize, data: &[u8]) -> bool, else true, sound net_base_fragments_is_sound(fragments, storage.len(),
     runs); }
-export! { "net_base_7_fragments_complete" = net_base_fragments_complete, (fragments: &FragmentsHead, capacity: usize,
+export! { "net_base_8_fragments_complete" = net_base_fragments_complete, (fragments: &FragmentsHead, capacity: usize,
     runs: &[Run], size: &mut usize) -> bool, else false, sound net_base_fragments_is_sound(fragments, capacity, runs); }
-export! { "net_base_7_parts_sum_init" = net_base_parts_sum_init, (sum: new &mut PartsSum); }
-export! { "net_base_7_parts_sum_add" = net_base_parts_sum_add, (sum: &mut PartsSum, part: &[u8]); }
-export! { "net_base_7_parts_sum_checksum" = net_base_parts_sum_checksum, (sum: &PartsSum) -> u16, else 0; }
-export! { "net_base_7_finite_receiver_init" = net_base_finite_receiver_init, (receiver: new &mut FiniteReceiverHead,
+export! { "net_base_8_parts_sum_init" = net_base_parts_sum_init, (sum: new &mut PartsSum); }
+export! { "net_base_8_parts_sum_add" = net_base_parts_sum_add, (sum: &mut PartsSum, part: &[u8]); }
+export! { "net_base_8_parts_sum_checksum" = net_base_parts_sum_checksum, (sum: &PartsSum) -> u16, else 0; }
+export! { "net_base_8_finite_receiver_init" = net_base_finite_receiver_init, (receiver: new &mut FiniteReceiverHead,
     first: u64) -> bool, else false; }
-export! { "net_base_7_finite_receiver_is_sound" = net_base_finite_receiver_is_sound, (receiver: &FiniteReceiverHead,
+export! { "net_base_8_finite_receiver_is_sound" = net_base_finite_receiver_is_sound, (receiver: &FiniteReceiverHead,
     capacity: usize, runs: &[Run]) -> bool, else false; }
-export! { "net_base_7_finite_receiver_can_end" = net_base_finite_receiver_can_end, (receiver: &FiniteReceiverHead, runs:
+export! { "net_base_8_finite_receiver_can_end" = net_base_finite_receiver_can_end, (receiver: &FiniteReceiverHead, runs:
     &[Run], position: u64) -> bool, else false; }
-export! { "net_base_7_finite_receiver_acknowledged" = net_base_finite_receiver_acknowledged, (receiver:
+export! { "net_base_8_finite_receiver_acknowledged" = net_base_finite_receiver_acknowledged, (receiver:
     &FiniteReceiverHead, number: &mut u64) -> bool, else false; }
-export! { "net_base_7_finite_receiver_has_read_all" = net_base_finite_receiver_has_read_all, (receiver:
+export! { "net_base_8_finite_receiver_has_read_all" = net_base_finite_receiver_has_read_all, (receiver:
     &FiniteReceiverHead) -> bool, else false; }
-export! { "net_base_7_finite_receiver_read" = net_base_finite_receiver_read, (receiver: &mut FiniteReceiverHead,
+export! { "net_base_8_finite_receiver_read" = net_base_finite_receiver_read, (receiver: &mut FiniteReceiverHead,
     storage: &[u8], into: &mut [u8]) -> usize, else no_number(); }
-export! { "net_base_7_finite_receiver_remove" = net_base_finite_receiver_remove, (receiver: &mut FiniteReceiverHead,
+export! { "net_base_8_finite_receiver_remove" = net_base_finite_receiver_remove, (receiver: &mut FiniteReceiverHead,
     capacity: usize, count: usize) -> bool, else false; }
-export! { "net_base_7_finite_receiver_segment" = net_base_finite_receiver_segment, (receiver: &mut FiniteReceiverHead,
+export! { "net_base_8_finite_receiver_segment" = net_base_finite_receiver_segment, (receiver: &mut FiniteReceiverHead,
     storage: &mut [u8], runs: &mut [Run], position: u64, bytes: &[u8], is_last: bool, counts: &mut KeptCounts) ->
     SegmentStatus, else NET_BASE_REFUSED, sound net_base_finite_receiver_is_sound(receiver, storage.len(), runs); }
-export! { "net_base_7_finite_receiver_window_end" = net_base_finite_receiver_window_end, (receiver: &FiniteReceiverHead,
+export! { "net_base_8_finite_receiver_window_end" = net_base_finite_receiver_window_end, (receiver: &FiniteReceiverHead,
     capacity: usize, end: &mut u64) -> bool, else false; }
-export! { "net_base_7_receiving_end_init" = net_base_receiving_end_init, (end: new &mut ReceivingEnd, first: u64,
+export! { "net_base_8_receiving_end_init" = net_base_receiving_end_init, (end: new &mut ReceivingEnd, first: u64,
     segment_size: u16) -> bool, else false; }
-export! { "net_base_7_receiving_end_is_sound" = net_base_receiving_end_is_sound, (end: &ReceivingEnd, capacity: usize)
+export! { "net_base_8_receiving_end_is_sound" = net_base_receiving_end_is_sound, (end: &ReceivingEnd, capacity: usize)
     -> bool, else false; }
-export! { "net_base_7_receiving_end_open" = net_base_receiving_end_open, (end: &mut ReceivingEnd, capacity: usize,
+export! { "net_base_8_receiving_end_open" = net_base_receiving_end_open, (end: &mut ReceivingEnd, capacity: usize,
     first: u64, scale: u8, window: &mut u16) -> bool, else false; }
-export! { "net_base_7_receiving_end_classify" = net_base_receiving_end_classify, (end: &ReceivingEnd, capacity: usize,
+export! { "net_base_8_receiving_end_classify" = net_base_receiving_end_classify, (end: &ReceivingEnd, capacity: usize,
     segment: &Segment) -> ArrivalStatus, else NET_BASE_REFUSED; }
-export! { "net_base_7_receiving_end_arrived" = net_base_receiving_end_arrived, (end: &mut ReceivingEnd, storage: &mut
+export! { "net_base_8_receiving_end_arrived" = net_base_receiving_end_arrived, (end: &mut ReceivingEnd, storage: &mut
     [u8], position: u64, bytes: &[u8], is_last: bool, counts: &mut KeptCounts) -> SegmentStatus, else NET_BASE_REFUSED,
     sound net_base_receiving_end_is_sound(end, storage.len()); }
-export! { "net_base_7_receiving_end_answer" = net_base_receiving_end_answer, (end: &mut ReceivingEnd); }
-export! { "net_base_7_receiving_end_is_due" = net_base_receiving_end_is_due, (end: &ReceivingEnd) -> bool, else false; }
-export! { "net_base_7_receiving_end_is_wanted" = net_base_receiving_end_is_wanted, (end: &ReceivingEnd, capacity: usize)
+export! { "net_base_8_receiving_end_answer" = net_base_receiving_end_answer, (end: &mut ReceivingEnd); }
+export! { "net_base_8_receiving_end_is_due" = net_base_receiving_end_is_due, (end: &ReceivingEnd) -> bool, else false; }
+export! { "net_base_8_receiving_end_is_wanted" = net_base_receiving_end_is_wanted, (end: &ReceivingEnd, capacity: usize)
     -> bool, else false, sound net_base_receiving_end_is_sound(end, capacity); }
-export! { "net_base_7_receiving_end_announce" = net_base_receiving_end_announce, (end: &mut ReceivingEnd, capacity:
+export! { "net_base_8_receiving_end_announce" = net_base_receiving_end_announce, (end: &mut ReceivingEnd, capacity:
     usize, next: &mut u64, window: &mut u16) -> bool, else false, sound net_base_receiving_end_is_sound(end, capacity);
     }
-export! { "net_base_7_receiving_end_acknowledgement" = net_base_receiving_end_acknowledgement, (end: &mut ReceivingEnd,
+export! { "net_base_8_receiving_end_acknowledgement" = net_base_receiving_end_acknowledgement, (end: &mut ReceivingEnd,
     capacity: usize, acknowledgement: &mut Acknowledgement) -> bool, else false, sound
     net_base_receiving_end_is_sound(end, capacity); }
-export! { "net_base_7_receiving_end_read" = net_base_receiving_end_read, (end: &mut ReceivingEnd, storage: &[u8], into:
+export! { "net_base_8_receiving_end_read" = net_base_receiving_end_read, (end: &mut ReceivingEnd, storage: &[u8], into:
     &mut [u8]) -> usize, else no_number(); }
-export! { "net_base_7_sending_end_init" = net_base_sending_end_init, (end: new &mut SendingEnd, first: u64,
+export! { "net_base_8_sending_end_init" = net_base_sending_end_init, (end: new &mut SendingEnd, first: u64,
     first_timeout: u64, bounds: &TimeoutBounds) -> bool, else false; }
-export! { "net_base_7_sending_end_is_sound" = net_base_sending_end_is_sound, (end: &SendingEnd, capacity: usize) ->
+export! { "net_base_8_sending_end_is_sound" = net_base_sending_end_is_sound, (end: &SendingEnd, capacity: usize) ->
     bool, else false; }
-export! { "net_base_7_sending_end_open" = net_base_sending_end_open, (end: &mut SendingEnd, storage: &[u8], it:
-    &Announcement, segment_size: usize, reports: bool, now: i64) -> bool, else false; }
-export! { "net_base_7_sending_end_is_opening_due" = net_base_sending_end_is_opening_due, (end: &mut SendingEnd, storage:
-    &[u8], now: i64) -> bool, else false; }
-export! { "net_base_7_sending_end_set_nagle_enabled" = net_base_sending_end_set_nagle_enabled, (end: &mut SendingEnd,
+export! { "net_base_8_sending_end_open" = net_base_sending_end_open, (end: &mut SendingEnd, capacity: usize,
+    announcement: &Announcement, segment_size: usize, reports: bool, now: i64) -> bool, else false; }
+export! { "net_base_8_sending_end_is_opening_due" = net_base_sending_end_is_opening_due, (end: &mut SendingEnd,
+    capacity: usize, now: i64) -> bool, else false; }
+export! { "net_base_8_sending_end_set_nagle_enabled" = net_base_sending_end_set_nagle_enabled, (end: &mut SendingEnd,
     enabled: bool); }
-export! { "net_base_7_sending_end_write" = net_base_sending_end_write, (end: &mut SendingEnd, storage: &mut [u8], bytes:
+export! { "net_base_8_sending_end_write" = net_base_sending_end_write, (end: &mut SendingEnd, storage: &mut [u8], bytes:
     &[u8]) -> usize, else no_number(); }
-export! { "net_base_7_sending_end_close" = net_base_sending_end_close, (end: &mut SendingEnd); }
-export! { "net_base_7_sending_end_acknowledged" = net_base_sending_end_acknowledged, (end: &mut SendingEnd, storage:
-    &[u8], it: &Announcement, blocks: &[HeldRun], is_empty: bool, now: i64) -> TakenAcknowledgement, else
+export! { "net_base_8_sending_end_close" = net_base_sending_end_close, (end: &mut SendingEnd); }
+export! { "net_base_8_sending_end_acknowledged" = net_base_sending_end_acknowledged, (end: &mut SendingEnd, capacity:
+    usize, announcement: &Announcement, blocks: &[HeldRun], is_empty: bool, now: i64) -> TakenAcknowledgement, else
     refused_taken_acknowledgement(); }
-export! { "net_base_7_sending_end_expired" = net_base_sending_end_expired, (end: &mut SendingEnd, storage: &[u8], now:
+export! { "net_base_8_sending_end_expired" = net_base_sending_end_expired, (end: &mut SendingEnd, capacity: usize, now:
     i64) -> EndedTimer, else refused_ended_timer(); }
-export! { "net_base_7_sending_end_take_back" = net_base_sending_end_take_back, (end: &mut SendingEnd, storage: &[u8]) ->
-    bool, else false; }
-export! { "net_base_7_sending_end_next_segment" = net_base_sending_end_next_segment, (end: &mut SendingEnd, storage:
-    &[u8], congestion_window: u64, now: i64) -> OutgoingSegment, else refused_outgoing_segment(); }
-export! { "net_base_7_sending_end_bytes" = net_base_sending_end_bytes, (end: &SendingEnd, capacity: usize, position:
+export! { "net_base_8_sending_end_take_back" = net_base_sending_end_take_back, (end: &mut SendingEnd, capacity: usize)
+    -> bool, else false; }
+export! { "net_base_8_sending_end_next_segment" = net_base_sending_end_next_segment, (end: &mut SendingEnd, capacity:
+    usize, congestion_window: u64, now: i64) -> OutgoingSegment, else refused_outgoing_segment(); }
+export! { "net_base_8_sending_end_bytes" = net_base_sending_end_bytes, (end: &SendingEnd, capacity: usize, position:
     u64, limit: u64) -> SegmentParts, else refused_segment_parts(); }
-export! { "net_base_7_sending_end_is_done" = net_base_sending_end_is_done, (end: &SendingEnd) -> bool, else false; }
-export! { "net_base_7_sending_end_expires_at" = net_base_sending_end_expires_at, (end: &SendingEnd, moment: &mut i64) ->
+export! { "net_base_8_sending_end_is_done" = net_base_sending_end_is_done, (end: &SendingEnd) -> bool, else false; }
+export! { "net_base_8_sending_end_expires_at" = net_base_sending_end_expires_at, (end: &SendingEnd, moment: &mut i64) ->
     bool, else false; }
-export! { "net_base_7_sending_end_acknowledgement_number" = net_base_sending_end_acknowledgement_number, (end:
+export! { "net_base_8_sending_end_empty_segment_position" = net_base_sending_end_empty_segment_position, (end:
     &SendingEnd) -> u64, else u64::MAX; }
-export! { "net_base_7_sending_end_is_recovering" = net_base_sending_end_is_recovering, (end: &SendingEnd) -> bool, else
+export! { "net_base_8_sending_end_is_recovering" = net_base_sending_end_is_recovering, (end: &SendingEnd) -> bool, else
     false; }
-export! { "net_base_7_answer_limit_init" = net_base_answer_limit_init, (limit: new &mut AnswerLimit); }
-export! { "net_base_7_answer_limit_allows" = net_base_answer_limit_allows, (limit: &mut AnswerLimit, segment: &Segment,
+export! { "net_base_8_answer_limit_init" = net_base_answer_limit_init, (limit: new &mut AnswerLimit); }
+export! { "net_base_8_answer_limit_allows" = net_base_answer_limit_allows, (limit: &mut AnswerLimit, segment: &Segment,
     now: i64) -> bool, else false; }
-export! { "net_base_7_sequence_number_position" = net_base_sequence_number_position, (number: u32, initial: u32, next:
+export! { "net_base_8_sequence_number_position" = net_base_sequence_number_position, (number: u32, initial: u32, next:
     u64, position: &mut u64) -> bool, else false; }

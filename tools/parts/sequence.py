@@ -23,7 +23,7 @@ NEAR = {("finite_receiver", "position"): NEXT.format("finite_receiver_receiver")
         ("fragments", "offset"): "0", ("fragments", "size"): "7"}
 NEAR |= {("sending_end", name): "now.sending_end_end.sender.sender.first_unacknowledged"
          for name in ("position", "limit")}
-NEAR |= {("sending_end", "it.ack"): "(below(2) ? now.sending_end_end.sender.sent : now.sending_end_end.sender.sender.first_unacknowledged)",
+NEAR |= {("sending_end", "announcement.ack"): "(below(2) ? now.sending_end_end.sender.sent : now.sending_end_end.sender.sender.first_unacknowledged)",
          ("sending_end", "now"): "(uint64_t)now.sending_end_end.head.timer.ends_at"}
 # What a head is made now and then, since calls seldom do: a timer whose probe is due before the timeout passes; and an
 # end whose stream is acknowledged, its end too.

@@ -1,16 +1,15 @@
 //! The sending end of a stream as one machine: a sender of a stream that ends, what the peer has reported, what is
 //! lost, the timer, and the peer's window. A program needs few of the fields below: it reads those of `sender`, and
-//! fills in `TimeoutBounds`. All others, such as those of `LossRecovery`, are for the calls alone, and may differ in the
-//! next version.
+//! fills in `TimeoutBounds`. All others, such as those of `LossRecovery`, are for the calls alone, and may differ in
+//! the next version.
 //!
 //! A head of zeros is new, of a stream that begins at position 0, whose first timeout is 1 second within the RFC's
 //! bounds. All of an end is in its head but the bytes: at most 16 runs are remembered of what was reported, enough for
-//! windows of up to 256 KiB on paths that reorder. `net_base_sending_end_write` alone writes into the storage; of the
-//! others each that is passed one needs only its length. Where the peer's SYN has come, `net_base_sending_end_open`
-//! begins with it. Each segment that is taken is acknowledged by `net_base_sending_end_acknowledged`. What is to be
-//! sent, `net_base_sending_end_next_segment` says, until it says that nothing is, and `net_base_sending_end_bytes`
-//! where it is. At the moment of `net_base_sending_end_expires_at` the timer is asked by
-//! `net_base_sending_end_expired`.
+//! windows of up to 256 KiB on paths that reorder. `net_base_sending_end_write` alone is passed the storage: others
+//! need at most its capacity. Where the peer's SYN has come, `net_base_sending_end_open` begins with it. Each segment
+//! that is taken is acknowledged by `net_base_sending_end_acknowledged`. What is to be sent,
+//! `net_base_sending_end_next_segment` says, until it says that nothing is, and `net_base_sending_end_bytes` where it
+//! is. At the moment of `net_base_sending_end_expires_at` the timer is asked by `net_base_sending_end_expired`.
 //!
 //! A number whose flag is false doesn't count, whatever it is. A timeout of 0 that counts passes at once, and then
 //! becomes the least one; no call writes such a timeout.
@@ -432,35 +431,37 @@ pub extern "C" fn net_base_sending_end_is_sound(end: &SendingEnd, capacity: usiz
     is_sound(end, capacity)
 }
 
-/// Begins with a peer, whose SYN announced a window (`it`), how many bytes a segment may have, and whether it reports
-/// blocks (SACK): one that doesn't couldn't answer a probe, and is sent none. What was written stays. It is done once,
-/// before anything is sent; a second time begins with another peer, and the timer runs if something is in flight.
+/// Begins with a peer, whose SYN announced a window, how many bytes a segment may have, and whether it reports blocks
+/// (SACK): one that doesn't couldn't answer a probe, and is sent none. `announcement.ack` is the own first position,
+/// even if the SYN has no ACK. What was written stays. It is done once, before anything is sent; a second time begins
+/// with another peer, and the timer runs if something is in flight.
 ///
-/// It is refused if `end` isn't sound over `storage.len()` bytes: false, and nothing changes.
+/// It is refused if `end` isn't sound over `capacity` bytes: false, and nothing changes.
 #[unsafe(no_mangle)]
 pub extern "C" fn net_base_sending_end_open(
     end: &mut SendingEnd,
-    storage: &[u8],
-    it: &Announcement,
+    capacity: usize,
+    announcement: &Announcement,
     segment_size: usize,
     reports: bool,
     now: i64,
 ) -> bool
-    ensures done { IsTrue result ↔ IsSoundSending (length storage.now) end.old }
-    ensures state { IsTrue result → sending_of end.new storage.now
-        ≡ after_event (sending_of end.old storage.now)
-        (Opened it.now.seq it.now.ack it.now.window segment_size reports now) }
-    ensures sound { IsTrue result → IsSoundSending (length storage.now) end.new }
+    ensures done { IsTrue result ↔ IsSoundSending capacity end.old }
+    ensures state { IsTrue result → (storage : List ℕ) → length storage ≡ capacity →
+        let it = announcement.now in sending_of end.new storage
+        ≡ after_event (sending_of end.old storage)
+        (Opened it.seq it.ack it.window segment_size reports now) }
+    ensures sound { IsTrue result → IsSoundSending capacity end.new }
     ensures refused { IsFalse result → end.new ≡ end.old }
 {
-    if !is_sound(end, storage.len()) {
+    if !is_sound(end, capacity) {
         return false;
     }
     let (numbers, first) = (numbers_from(&end.sender), first_timeout(end));
     end.head.open(
         numbers,
         first,
-        *it,
+        *announcement,
         segment_size,
         sack_of(reports),
         moment(now),
@@ -471,24 +472,24 @@ pub extern "C" fn net_base_sending_end_open(
 /// Returns whether a SYN is to be sent now, the first one or one after a timeout, and starts the timer for the next.
 /// Ask it only until something is acknowledged, at which it doesn't look.
 ///
-/// It is refused if `end` isn't sound over `storage.len()` bytes: false, and nothing changes.
+/// It is refused if `end` isn't sound over `capacity` bytes: false, and nothing changes.
 #[unsafe(no_mangle)]
 pub extern "C" fn net_base_sending_end_is_opening_due(
     end: &mut SendingEnd,
-    storage: &[u8],
+    capacity: usize,
     now: i64,
 ) -> bool
-    ensures value { IsSoundSending (length storage.now) end.old →
-        let timer = (sending_of end.old storage.now).timer in
+    ensures value { IsSoundSending capacity end.old → (storage : List ℕ) →
+        length storage ≡ capacity → let timer = (sending_of end.old storage).timer in
         result ≡ (has_expired timer now || is_none (expires_at timer)) }
-    ensures state { IsSoundSending (length storage.now) end.old → sending_of end.new storage.now
-        ≡ after_event (sending_of end.old storage.now) (Opening now) }
-    ensures sound { IsSoundSending (length storage.now) end.old →
-        IsSoundSending (length storage.now) end.new }
-    ensures refused { (IsSoundSending (length storage.now) end.old → ⊥) →
+    ensures state { IsSoundSending capacity end.old → (storage : List ℕ) →
+        length storage ≡ capacity → sending_of end.new storage
+        ≡ after_event (sending_of end.old storage) (Opening now) }
+    ensures sound { IsSoundSending capacity end.old → IsSoundSending capacity end.new }
+    ensures refused { (IsSoundSending capacity end.old → ⊥) →
         IsFalse result × (end.new ≡ end.old) }
 {
-    if !is_sound(end, storage.len()) {
+    if !is_sound(end, capacity) {
         return false;
     }
     end.head
@@ -544,31 +545,31 @@ pub extern "C" fn net_base_sending_end_close(end: &mut SendingEnd)
     end.sender.close();
 }
 
-/// Takes what a segment acknowledges and announces (`it`), and the blocks that it reports, as positions. It `is_empty`
-/// if it has no byte and no FIN. Blocks of what wasn't sent say nothing.
+/// Takes what a segment acknowledges and announces, and the blocks that it reports, as positions. It `is_empty` if it
+/// has no byte and no FIN. Blocks of what wasn't sent say nothing.
 ///
-/// It is refused if `end` isn't sound over `storage.len()` bytes, or if there are more than 4 blocks: `count` is 0,
+/// It is refused if `end` isn't sound over `capacity` bytes, or if there are more than 4 blocks: `count` is 0,
 /// `reports` and `begins` are false, the status is `NET_BASE_REFUSED`, and nothing changes.
 #[unsafe(no_mangle)]
 pub extern "C" fn net_base_sending_end_acknowledged(
     end: &mut SendingEnd,
-    storage: &[u8],
-    it: &Announcement,
+    capacity: usize,
+    announcement: &Announcement,
     blocks: &[HeldRun],
     is_empty: bool,
     now: i64,
 ) -> TakenAcknowledgement
-    ensures value { IsSoundSending (length storage.now) end.old → AreBlocks blocks.now →
+    ensures value { IsSoundSending capacity end.old → AreBlocks blocks.now →
+        (storage : List ℕ) → length storage ≡ capacity → let it = announcement.now in
         (said : Acknowledged) × (result ≡ taken_fields said)
-        × Hears 16 (sending_of end.old storage.now) it.now.seq it.now.ack it.now.window
-        (ranges_of blocks.now) is_empty now said (sending_of end.new storage.now) }
-    ensures sound { IsSoundSending (length storage.now) end.old →
-        IsSoundSending (length storage.now) end.new }
-    ensures refused { (IsSoundSending (length storage.now) end.old × AreBlocks blocks.now → ⊥) →
+        × Hears 16 (sending_of end.old storage) it.seq it.ack it.window
+        (ranges_of blocks.now) is_empty now said (sending_of end.new storage) }
+    ensures sound { IsSoundSending capacity end.old → IsSoundSending capacity end.new }
+    ensures refused { (IsSoundSending capacity end.old × AreBlocks blocks.now → ⊥) →
         (result ≡ record { status = 2; count = 0; reports = false; begins = false })
         × (end.new ≡ end.old) }
 {
-    if blocks.len() > BLOCKS || !is_sound(end, storage.len()) {
+    if blocks.len() > BLOCKS || !is_sound(end, capacity) {
         return refused_taken_acknowledgement();
     }
     are_sixteen(end.runs);
@@ -578,44 +579,43 @@ pub extern "C" fn net_base_sending_end_acknowledged(
         &mut end.runs,
         numbers,
         bounds_from(&end.bounds),
-        *it,
+        *announcement,
         &ranges[..blocks.len()],
         is_empty,
         moment(now),
     );
-    acknowledge(&mut end.sender, storage.len(), it.ack);
+    acknowledge(&mut end.sender, capacity, announcement.ack);
     fields_of_acknowledged(said)
 }
 
 /// Returns whether the timer has ended, and what that means. If it has, it starts again, and
 /// `net_base_sending_end_next_segment` says what is then to be sent.
 ///
-/// It is refused if `end` isn't sound over `storage.len()` bytes: `begins` is false, the status is `NET_BASE_REFUSED`,
+/// It is refused if `end` isn't sound over `capacity` bytes: `begins` is false, the status is `NET_BASE_REFUSED`,
 /// and nothing changes.
 #[unsafe(no_mangle)]
 pub extern "C" fn net_base_sending_end_expired(
     end: &mut SendingEnd,
-    storage: &[u8],
+    capacity: usize,
     now: i64,
 ) -> EndedTimer
-    ensures value { IsSoundSending (length storage.now) end.old → (said : Expired)
-        × (result ≡ ended_fields said)
-        × Looks (sending_of end.old storage.now) now said (sending_of end.new storage.now) }
-    ensures sound { IsSoundSending (length storage.now) end.old →
-        IsSoundSending (length storage.now) end.new }
-    ensures refused { (IsSoundSending (length storage.now) end.old → ⊥) →
+    ensures value { IsSoundSending capacity end.old → (storage : List ℕ) →
+        length storage ≡ capacity → (said : Expired) × (result ≡ ended_fields said)
+        × Looks (sending_of end.old storage) now said (sending_of end.new storage) }
+    ensures sound { IsSoundSending capacity end.old → IsSoundSending capacity end.new }
+    ensures refused { (IsSoundSending capacity end.old → ⊥) →
         (result ≡ record { status = 2; begins = false }) × (end.new ≡ end.old) }
 {
-    if !is_sound(end, storage.len()) {
+    if !is_sound(end, capacity) {
         return refused_ended_timer();
     }
     match end.head.timer.expire(bounds_from(&end.bounds), moment(now)) {
         Some(Expiry::Probe) => {
-            let queued = queued_from(&end.sender, storage.len());
+            let queued = queued_from(&end.sender, capacity);
             fields_of_expired(end.head.take_silence(&end.runs, queued))
         }
         Some(Expiry::Timeout) => {
-            let queued = queued_from(&end.sender, storage.len());
+            let queued = queued_from(&end.sender, capacity);
             fields_of_expired(end.head.take_timeout(queued))
         }
         None => ended(NET_BASE_DONE, false),
@@ -627,21 +627,20 @@ pub extern "C" fn net_base_sending_end_expired(
 /// when the recovery began. Ask it after each acknowledgement, an old one too. It is true once: not before another
 /// recovery begins.
 ///
-/// It is refused if `end` isn't sound over `storage.len()` bytes: false, and nothing changes.
+/// It is refused if `end` isn't sound over `capacity` bytes: false, and nothing changes.
 #[unsafe(no_mangle)]
-pub extern "C" fn net_base_sending_end_take_back(end: &mut SendingEnd, storage: &[u8]) -> bool
-    ensures value { IsSoundSending (length storage.now) end.old →
-        let e = sending_of end.old storage.now in
+pub extern "C" fn net_base_sending_end_take_back(end: &mut SendingEnd, capacity: usize) -> bool
+    ensures value { IsSoundSending capacity end.old → (storage : List ℕ) →
+        length storage ≡ capacity → let e = sending_of end.old storage in
         result ≡ is_wrong e.recovery (first e) e.reported }
-    ensures state { IsSoundSending (length storage.now) end.old →
-        let e = sending_of end.old storage.now in sending_of end.new storage.now
+    ensures state { IsSoundSending capacity end.old → (storage : List ℕ) →
+        length storage ≡ capacity → let e = sending_of end.old storage in sending_of end.new storage
         ≡ after_event e (Resumed (taken_back (first e) e.reported e.recovery)) }
-    ensures sound { IsSoundSending (length storage.now) end.old →
-        IsSoundSending (length storage.now) end.new }
-    ensures refused { (IsSoundSending (length storage.now) end.old → ⊥) →
+    ensures sound { IsSoundSending capacity end.old → IsSoundSending capacity end.new }
+    ensures refused { (IsSoundSending capacity end.old → ⊥) →
         IsFalse result × (end.new ≡ end.old) }
 {
-    if !is_sound(end, storage.len()) {
+    if !is_sound(end, capacity) {
         return false;
     }
     let numbers = numbers_from(&end.sender);
@@ -652,29 +651,28 @@ pub extern "C" fn net_base_sending_end_take_back(end: &mut SendingEnd, storage: 
 /// window have room for one, or as a probe. `congestion_window` is how many bytes may be in flight. Less than a whole
 /// segment may be held back (RFC 9293, 3.8.6.2.1, and Nagle's rule).
 ///
-/// It is refused if `end` isn't sound over `storage.len()` bytes: `position` and `end` are 0, `is_again` is false, the
+/// It is refused if `end` isn't sound over `capacity` bytes: `position` and `end` are 0, `is_again` is false, the
 /// status is `NET_BASE_REFUSED`, and nothing changes.
 #[unsafe(no_mangle)]
 pub extern "C" fn net_base_sending_end_next_segment(
     end: &mut SendingEnd,
-    storage: &[u8],
+    capacity: usize,
     congestion_window: u64,
     now: i64,
 ) -> OutgoingSegment
-    ensures value { IsSoundSending (length storage.now) end.old → (said : Option Outgoing)
-        × (result ≡ outgoing_fields said)
-        × Chooses (sending_of end.old storage.now) congestion_window now said
-        (sending_of end.new storage.now) }
-    ensures sound { IsSoundSending (length storage.now) end.old →
-        IsSoundSending (length storage.now) end.new }
-    ensures refused { (IsSoundSending (length storage.now) end.old → ⊥) →
+    ensures value { IsSoundSending capacity end.old → (storage : List ℕ) →
+        length storage ≡ capacity → (said : Option Outgoing) × (result ≡ outgoing_fields said)
+        × Chooses (sending_of end.old storage) congestion_window now said
+        (sending_of end.new storage) }
+    ensures sound { IsSoundSending capacity end.old → IsSoundSending capacity end.new }
+    ensures refused { (IsSoundSending capacity end.old → ⊥) →
         (result ≡ record { status = 2; position = 0; end = 0; is_again = false })
         × (end.new ≡ end.old) }
 {
-    if !is_sound(end, storage.len()) {
+    if !is_sound(end, capacity) {
         return refused_outgoing_segment();
     }
-    let queued = queued_from(&end.sender, storage.len());
+    let queued = queued_from(&end.sender, capacity);
     let said = end.head.next_segment(
         &end.runs,
         queued,
@@ -685,7 +683,7 @@ pub extern "C" fn net_base_sending_end_next_segment(
     match said {
         None => no_segment(NET_BASE_NOTHING),
         Some(it) => {
-            mark(&mut end.sender, storage.len(), it.end);
+            mark(&mut end.sender, capacity, it.end);
             fields_of_outgoing(it)
         }
     }
@@ -754,11 +752,11 @@ pub extern "C" fn net_base_sending_end_expires_at(end: &SendingEnd, moment: &mut
     }
 }
 
-/// Returns the number of a segment without positions.
+/// Returns the position that an empty segment has, as an acknowledgement alone: its sequence number.
 ///
 /// It is refused if the first number that isn't acknowledged doesn't fit 64 bits: `u64::MAX`.
 #[unsafe(no_mangle)]
-pub extern "C" fn net_base_sending_end_acknowledgement_number(end: &SendingEnd) -> u64
+pub extern "C" fn net_base_sending_end_empty_segment_position(end: &SendingEnd) -> u64
     ensures value { end.now.sender.sender.first_unacknowledged + end.now.sender.finished < 2 ^ 64 →
         (storage : List ℕ) → let e = sending_of end.now storage in
         result ≡ acknowledgement_number e.peer (first e) e.sender.sent }

@@ -228,23 +228,27 @@ pub fn net_base_sending_end_is_sound(end: &SendingEnd, capacity: usize) -> bool 
 #[inline(always)]
 pub fn net_base_sending_end_open(
     end: &mut SendingEnd,
-    storage: &[u8],
-    it: &Announcement,
+    capacity: usize,
+    announcement: &Announcement,
     segment_size: usize,
     reports: bool,
     now: i64,
 ) -> bool {
-    if !is_sound(end, storage.len()) {
+    if !is_sound(end, capacity) {
         return false;
     }
     let (numbers, first) = (numbers_from(&end.sender), first_timeout(end));
-    end.head.open(numbers, first, *it, segment_size, sack_of(reports), moment(now));
+    end.head.open(numbers, first, *announcement, segment_size, sack_of(reports), moment(now));
     true
 }
 
 #[inline(always)]
-pub fn net_base_sending_end_is_opening_due(end: &mut SendingEnd, storage: &[u8], now: i64) -> bool {
-    if !is_sound(end, storage.len()) {
+pub fn net_base_sending_end_is_opening_due(
+    end: &mut SendingEnd,
+    capacity: usize,
+    now: i64,
+) -> bool {
+    if !is_sound(end, capacity) {
         return false;
     }
     end.head.is_opening_due(bounds_from(&end.bounds), moment(now))
@@ -271,13 +275,13 @@ pub fn net_base_sending_end_close(end: &mut SendingEnd) {
 #[inline(always)]
 pub fn net_base_sending_end_acknowledged(
     end: &mut SendingEnd,
-    storage: &[u8],
-    it: &Announcement,
+    capacity: usize,
+    announcement: &Announcement,
     blocks: &[HeldRun],
     is_empty: bool,
     now: i64,
 ) -> TakenAcknowledgement {
-    if blocks.len() > BLOCKS || !is_sound(end, storage.len()) {
+    if blocks.len() > BLOCKS || !is_sound(end, capacity) {
         return refused_taken_acknowledgement();
     }
     let ranges = ranges_of(blocks);
@@ -286,27 +290,27 @@ pub fn net_base_sending_end_acknowledged(
         &mut end.runs,
         numbers,
         bounds_from(&end.bounds),
-        *it,
+        *announcement,
         &ranges[..blocks.len()],
         is_empty,
         moment(now),
     );
-    acknowledge(&mut end.sender, storage.len(), it.ack);
+    acknowledge(&mut end.sender, capacity, announcement.ack);
     fields_of_acknowledged(said)
 }
 
 #[inline(always)]
-pub fn net_base_sending_end_expired(end: &mut SendingEnd, storage: &[u8], now: i64) -> EndedTimer {
-    if !is_sound(end, storage.len()) {
+pub fn net_base_sending_end_expired(end: &mut SendingEnd, capacity: usize, now: i64) -> EndedTimer {
+    if !is_sound(end, capacity) {
         return refused_ended_timer();
     }
     match end.head.timer.expire(bounds_from(&end.bounds), moment(now)) {
         Some(Expiry::Probe) => {
-            let queued = queued_from(&end.sender, storage.len());
+            let queued = queued_from(&end.sender, capacity);
             fields_of_expired(end.head.take_silence(&end.runs, queued))
         }
         Some(Expiry::Timeout) => {
-            let queued = queued_from(&end.sender, storage.len());
+            let queued = queued_from(&end.sender, capacity);
             fields_of_expired(end.head.take_timeout(queued))
         }
         None => ended(NET_BASE_DONE, false),
@@ -314,8 +318,8 @@ pub fn net_base_sending_end_expired(end: &mut SendingEnd, storage: &[u8], now: i
 }
 
 #[inline(always)]
-pub fn net_base_sending_end_take_back(end: &mut SendingEnd, storage: &[u8]) -> bool {
-    if !is_sound(end, storage.len()) {
+pub fn net_base_sending_end_take_back(end: &mut SendingEnd, capacity: usize) -> bool {
+    if !is_sound(end, capacity) {
         return false;
     }
     let numbers = numbers_from(&end.sender);
@@ -325,14 +329,14 @@ pub fn net_base_sending_end_take_back(end: &mut SendingEnd, storage: &[u8]) -> b
 #[inline(always)]
 pub fn net_base_sending_end_next_segment(
     end: &mut SendingEnd,
-    storage: &[u8],
+    capacity: usize,
     congestion_window: u64,
     now: i64,
 ) -> OutgoingSegment {
-    if !is_sound(end, storage.len()) {
+    if !is_sound(end, capacity) {
         return refused_outgoing_segment();
     }
-    let queued = queued_from(&end.sender, storage.len());
+    let queued = queued_from(&end.sender, capacity);
     let said = end.head.next_segment(
         &end.runs,
         queued,
@@ -343,7 +347,7 @@ pub fn net_base_sending_end_next_segment(
     match said {
         None => no_segment(NET_BASE_NOTHING),
         Some(it) => {
-            mark(&mut end.sender, storage.len(), it.end);
+            mark(&mut end.sender, capacity, it.end);
             fields_of_outgoing(it)
         }
     }
@@ -388,7 +392,7 @@ pub fn net_base_sending_end_expires_at(end: &SendingEnd, moment: &mut i64) -> bo
 }
 
 #[inline(always)]
-pub fn net_base_sending_end_acknowledgement_number(end: &SendingEnd) -> u64 {
+pub fn net_base_sending_end_empty_segment_position(end: &SendingEnd) -> u64 {
     if !has_first(&end.sender) {
         return u64::MAX;
     }

@@ -21,174 +21,174 @@ ghost use Rattle.std.specs.Prelude.{IsFalse, IsTrue, drop, length, min, take, �
 use crate::refusals::{no_number, refused_span};
 use net_ring::{RingHead, Span};
 
-/// Makes `place` the head of an empty ring, which is sound for each storage.
+/// Makes `ring` the head of an empty ring, which is sound for each storage.
 #[unsafe(no_mangle)]
-pub extern "C" fn net_base_ring_init(place: &mut RingHead)
-    ensures { place.new ≡ place_of 0 0 }
+pub extern "C" fn net_base_ring_init(ring: &mut RingHead)
+    ensures { ring.new ≡ place_of 0 0 }
 {
-    *place = RingHead::new();
+    *ring = RingHead::new();
 }
 
 /// Returns where at most `size` free elements are, from the one at `offset` on; none if `offset` is
 /// past the free elements.
 ///
-/// It is refused if `place` isn't that of a ring of `capacity` elements: `from` is `NET_BASE_NONE`,
+/// It is refused if `ring` isn't the head of a ring of `capacity` elements: `from` is `NET_BASE_NONE`,
 /// `count` and `contiguous` are 0.
 #[unsafe(no_mangle)]
 pub extern "C" fn net_base_ring_unallocated(
-    place: &RingHead,
+    ring: &RingHead,
     capacity: usize,
     offset: usize,
     size: usize,
 ) -> Span
-    ensures from { IsSound capacity place.now → result.from ≡ free_index capacity place.now offset }
-    ensures count { IsSound capacity place.now
-        → result.count ≡ min size (capacity - place.now.length - offset) }
-    ensures contiguous { IsSound capacity place.now
+    ensures from { IsSound capacity ring.now → result.from ≡ free_index capacity ring.now offset }
+    ensures count { IsSound capacity ring.now
+        → result.count ≡ min size (capacity - ring.now.length - offset) }
+    ensures contiguous { IsSound capacity ring.now
         → result.contiguous ≡ min result.count (capacity - result.from) }
-    ensures within { IsSound capacity place.now
+    ensures within { IsSound capacity ring.now
         → (result.from ≤ capacity) × IsWithin capacity result }
-    ensures refused { (IsSound capacity place.now → ⊥) → result ≡ nowhere }
+    ensures refused { (IsSound capacity ring.now → ⊥) → result ≡ nowhere }
 {
-    if !place.is_sound(capacity) {
+    if !ring.is_sound(capacity) {
         return refused_span();
     }
-    place.unallocated(capacity, offset, size)
+    ring.unallocated(capacity, offset, size)
 }
 
 /// Returns where at most `size` elements of the queue are, from the one at `offset` on; none if
 /// `offset` is past the queue.
 ///
-/// It is refused if `place` isn't that of a ring of `capacity` elements: `from` is `NET_BASE_NONE`,
+/// It is refused if `ring` isn't the head of a ring of `capacity` elements: `from` is `NET_BASE_NONE`,
 /// `count` and `contiguous` are 0.
 #[unsafe(no_mangle)]
 pub extern "C" fn net_base_ring_allocated(
-    place: &RingHead,
+    ring: &RingHead,
     capacity: usize,
     offset: usize,
     size: usize,
 ) -> Span
-    ensures from { IsSound capacity place.now
-        → result.from ≡ queued_index capacity place.now offset }
-    ensures count { IsSound capacity place.now
-        → result.count ≡ min size (place.now.length - offset) }
-    ensures contiguous { IsSound capacity place.now
+    ensures from { IsSound capacity ring.now
+        → result.from ≡ queued_index capacity ring.now offset }
+    ensures count { IsSound capacity ring.now
+        → result.count ≡ min size (ring.now.length - offset) }
+    ensures contiguous { IsSound capacity ring.now
         → result.contiguous ≡ min result.count (capacity - result.from) }
-    ensures within { IsSound capacity place.now
+    ensures within { IsSound capacity ring.now
         → (result.from ≤ capacity) × IsWithin capacity result }
-    ensures refused { (IsSound capacity place.now → ⊥) → result ≡ nowhere }
+    ensures refused { (IsSound capacity ring.now → ⊥) → result ≡ nowhere }
 {
-    if !place.is_sound(capacity) {
+    if !ring.is_sound(capacity) {
         return refused_span();
     }
-    place.allocated(capacity, offset, size)
+    ring.allocated(capacity, offset, size)
 }
 
 /// Enqueues `count` elements, with what the storage has there.
 ///
-/// It is refused if `place` isn't that of a ring of `capacity` elements, or if fewer than `count`
+/// It is refused if `ring` isn't the head of a ring of `capacity` elements, or if fewer than `count`
 /// elements are free: false, and nothing changes.
 #[unsafe(no_mangle)]
-pub extern "C" fn net_base_ring_enqueue(place: &mut RingHead, capacity: usize, count: usize) -> bool
+pub extern "C" fn net_base_ring_enqueue(ring: &mut RingHead, capacity: usize, count: usize) -> bool
     ensures done { IsTrue result
-        ↔ ((IsSound capacity place.old) × (count ≤ capacity - place.old.length)) }
-    ensures place { IsTrue result → place.new ≡ enqueued_place count place.old }
-    ensures sound { IsTrue result → IsSound capacity place.new }
-    ensures unchanged { IsFalse result → (place.new ≡ place.old) }
+        ↔ ((IsSound capacity ring.old) × (count ≤ capacity - ring.old.length)) }
+    ensures place { IsTrue result → ring.new ≡ enqueued_place count ring.old }
+    ensures sound { IsTrue result → IsSound capacity ring.new }
+    ensures unchanged { IsFalse result → (ring.new ≡ ring.old) }
 {
-    if !place.is_sound(capacity) || count > capacity - place.length {
+    if !ring.is_sound(capacity) || count > capacity - ring.length {
         return false;
     }
-    place.enqueue(capacity, count);
+    ring.enqueue(capacity, count);
     true
 }
 
 /// Dequeues `count` elements.
 ///
-/// It is refused if `place` isn't that of a ring of `capacity` elements, or if fewer than `count`
+/// It is refused if `ring` isn't the head of a ring of `capacity` elements, or if fewer than `count`
 /// elements are queued: false, and nothing changes.
 #[unsafe(no_mangle)]
-pub extern "C" fn net_base_ring_dequeue(place: &mut RingHead, capacity: usize, count: usize) -> bool
-    ensures done { IsTrue result ↔ ((IsSound capacity place.old) × (count ≤ place.old.length)) }
-    ensures place { IsTrue result → place.new ≡ dequeued_place capacity count place.old }
-    ensures sound { IsTrue result → IsSound capacity place.new }
-    ensures unchanged { IsFalse result → (place.new ≡ place.old) }
+pub extern "C" fn net_base_ring_dequeue(ring: &mut RingHead, capacity: usize, count: usize) -> bool
+    ensures done { IsTrue result ↔ ((IsSound capacity ring.old) × (count ≤ ring.old.length)) }
+    ensures place { IsTrue result → ring.new ≡ dequeued_place capacity count ring.old }
+    ensures sound { IsTrue result → IsSound capacity ring.new }
+    ensures unchanged { IsFalse result → (ring.new ≡ ring.old) }
 {
-    if !place.is_sound(capacity) || count > place.length {
+    if !ring.is_sound(capacity) || count > ring.length {
         return false;
     }
-    place.dequeue(capacity, count);
+    ring.dequeue(capacity, count);
     true
 }
 
 /// Enqueues as many elements of `data` as there is room for, and returns how many. An empty ring
 /// first moves its read index to the storage's beginning, even if nothing is enqueued.
 ///
-/// It is refused if `place` isn't that of a ring of `storage.len()` elements: `NET_BASE_NONE`, and
+/// It is refused if `ring` isn't the head of a ring of `storage.len()` elements: `NET_BASE_NONE`, and
 /// nothing changes.
 #[unsafe(no_mangle)]
 pub extern "C" fn net_base_ring_enqueue_slice(
-    place: &mut RingHead,
+    ring: &mut RingHead,
     storage: &mut [u8],
     data: &[u8],
 ) -> usize
-    ensures count { IsSound (length storage.old) place.old
-        → result ≡ min (length «data».now) (window (ring_at storage.old place.old)) }
-    ensures ring { let g = rewind_if_empty (ring_at storage.old place.old) in
-        IsSound (length storage.old) place.old
-        → ring_at storage.new place.new
+    ensures count { IsSound (length storage.old) ring.old
+        → result ≡ min (length «data».now) (window (ring_at storage.old ring.old)) }
+    ensures ring { let g = rewind_if_empty (ring_at storage.old ring.old) in
+        IsSound (length storage.old) ring.old
+        → ring_at storage.new ring.new
         ≡ with_enqueued result (with_elements_wrapping g (write_at g) (take result «data».now)) }
-    ensures enqueued { IsSound (length storage.old) place.old
-        → Enqueues (rewind_if_empty (ring_at storage.old place.old)) (take result «data».now)
-        (ring_at storage.new place.new) }
-    ensures queue { IsSound (length storage.old) place.old
-        → queue (ring_at storage.new place.new)
-        ≡ queue (ring_at storage.old place.old) ++ take result «data».now }
-    ensures same { IsSound (length storage.old) place.old
-        → (place.new.length ≡ place.old.length + result)
+    ensures enqueued { IsSound (length storage.old) ring.old
+        → Enqueues (rewind_if_empty (ring_at storage.old ring.old)) (take result «data».now)
+        (ring_at storage.new ring.new) }
+    ensures queue { IsSound (length storage.old) ring.old
+        → queue (ring_at storage.new ring.new)
+        ≡ queue (ring_at storage.old ring.old) ++ take result «data».now }
+    ensures same { IsSound (length storage.old) ring.old
+        → (ring.new.length ≡ ring.old.length + result)
         × (length storage.new ≡ length storage.old) }
-    ensures sound { IsSound (length storage.old) place.old
-        → IsSound (length storage.new) place.new }
-    ensures refused { (IsSound (length storage.old) place.old → ⊥)
-        → (result ≡ no_number) × (place.new ≡ place.old) × (storage.new ≡ storage.old) }
+    ensures sound { IsSound (length storage.old) ring.old
+        → IsSound (length storage.new) ring.new }
+    ensures refused { (IsSound (length storage.old) ring.old → ⊥)
+        → (result ≡ no_number) × (ring.new ≡ ring.old) × (storage.new ≡ storage.old) }
 {
-    if !place.is_sound(storage.len()) {
+    if !ring.is_sound(storage.len()) {
         return no_number();
     }
-    place.enqueue_slice(storage, data)
+    ring.enqueue_slice(storage, data)
 }
 
 /// Dequeues as many elements as `into` has room for and are queued, copies them to the beginning of
 /// `into`, and returns how many. The rest of `into` stays as it is.
 ///
-/// It is refused if `place` isn't that of a ring of `storage.len()` elements: `NET_BASE_NONE`, and
+/// It is refused if `ring` isn't the head of a ring of `storage.len()` elements: `NET_BASE_NONE`, and
 /// nothing changes.
 #[unsafe(no_mangle)]
 pub extern "C" fn net_base_ring_dequeue_slice(
-    place: &mut RingHead,
+    ring: &mut RingHead,
     storage: &[u8],
     into: &mut [u8],
 ) -> usize
-    ensures count { IsSound (length storage.now) place.old
-        → result ≡ min (length «into».old) place.old.length }
-    ensures given { IsSound (length storage.now) place.old
+    ensures count { IsSound (length storage.now) ring.old
+        → result ≡ min (length «into».old) ring.old.length }
+    ensures given { IsSound (length storage.now) ring.old
         → «into».new
-        ≡ take result (queue (ring_at storage.now place.old)) ++ drop result «into».old }
-    ensures ring { IsSound (length storage.now) place.old
-        → ring_at storage.now place.new ≡ with_dequeued result (ring_at storage.now place.old) }
-    ensures dequeued { IsSound (length storage.now) place.old
-        → Dequeues (ring_at storage.now place.old) result
-        (take result (queue (ring_at storage.now place.old))) (ring_at storage.now place.new) }
-    ensures queue { IsSound (length storage.now) place.old
-        → queue (ring_at storage.now place.new)
-        ≡ drop result (queue (ring_at storage.now place.old)) }
-    ensures sound { IsSound (length storage.now) place.old
-        → IsSound (length storage.now) place.new }
-    ensures refused { (IsSound (length storage.now) place.old → ⊥)
-        → (result ≡ no_number) × (place.new ≡ place.old) × («into».new ≡ «into».old) }
+        ≡ take result (queue (ring_at storage.now ring.old)) ++ drop result «into».old }
+    ensures ring { IsSound (length storage.now) ring.old
+        → ring_at storage.now ring.new ≡ with_dequeued result (ring_at storage.now ring.old) }
+    ensures dequeued { IsSound (length storage.now) ring.old
+        → Dequeues (ring_at storage.now ring.old) result
+        (take result (queue (ring_at storage.now ring.old))) (ring_at storage.now ring.new) }
+    ensures queue { IsSound (length storage.now) ring.old
+        → queue (ring_at storage.now ring.new)
+        ≡ drop result (queue (ring_at storage.now ring.old)) }
+    ensures sound { IsSound (length storage.now) ring.old
+        → IsSound (length storage.now) ring.new }
+    ensures refused { (IsSound (length storage.now) ring.old → ⊥)
+        → (result ≡ no_number) × (ring.new ≡ ring.old) × («into».new ≡ «into».old) }
 {
-    if !place.is_sound(storage.len()) {
+    if !ring.is_sound(storage.len()) {
         return no_number();
     }
-    place.dequeue_slice(storage, into)
+    ring.dequeue_slice(storage, into)
 }

@@ -3,66 +3,66 @@ use crate::exports::refusals::{no_number, refused_span};
 use crate::exports::{RingHead, Span};
 
 #[inline(always)]
-pub fn net_base_ring_init(place: &mut RingHead) {
-    *place = RingHead::new();
+pub fn net_base_ring_init(ring: &mut RingHead) {
+    *ring = RingHead::new();
 }
 
 #[inline(always)]
 pub fn net_base_ring_unallocated(
-    place: &RingHead,
+    ring: &RingHead,
     capacity: usize,
     offset: usize,
     size: usize,
 ) -> Span {
-    if !place.is_sound(capacity) {
+    if !ring.is_sound(capacity) {
         return refused_span();
     }
-    place.unallocated(capacity, offset, size)
+    ring.unallocated(capacity, offset, size)
 }
 
 #[inline(always)]
 pub fn net_base_ring_allocated(
-    place: &RingHead,
+    ring: &RingHead,
     capacity: usize,
     offset: usize,
     size: usize,
 ) -> Span {
-    if !place.is_sound(capacity) {
+    if !ring.is_sound(capacity) {
         return refused_span();
     }
-    place.allocated(capacity, offset, size)
+    ring.allocated(capacity, offset, size)
 }
 
 #[inline(always)]
-pub fn net_base_ring_enqueue(place: &mut RingHead, capacity: usize, count: usize) -> bool {
-    if !place.is_sound(capacity) || count > capacity - place.length {
+pub fn net_base_ring_enqueue(ring: &mut RingHead, capacity: usize, count: usize) -> bool {
+    if !ring.is_sound(capacity) || count > capacity - ring.length {
         return false;
     }
-    place.enqueue(capacity, count);
+    ring.enqueue(capacity, count);
     true
 }
 
 #[inline(always)]
-pub fn net_base_ring_dequeue(place: &mut RingHead, capacity: usize, count: usize) -> bool {
-    if !place.is_sound(capacity) || count > place.length {
+pub fn net_base_ring_dequeue(ring: &mut RingHead, capacity: usize, count: usize) -> bool {
+    if !ring.is_sound(capacity) || count > ring.length {
         return false;
     }
-    place.dequeue(capacity, count);
+    ring.dequeue(capacity, count);
     true
 }
 
 #[inline(always)]
-pub fn net_base_ring_enqueue_slice(place: &mut RingHead, storage: &mut [u8], data: &[u8]) -> usize {
-    if !place.is_sound(storage.len()) {
+pub fn net_base_ring_enqueue_slice(ring: &mut RingHead, storage: &mut [u8], data: &[u8]) -> usize {
+    if !ring.is_sound(storage.len()) {
         return no_number();
     }
-    place.enqueue_slice(storage, data)
+    ring.enqueue_slice(storage, data)
 }
 
 #[inline(always)]
-pub fn net_base_ring_dequeue_slice(place: &mut RingHead, storage: &[u8], into: &mut [u8]) -> usize {
-    if !place.is_sound(storage.len()) {
+pub fn net_base_ring_dequeue_slice(ring: &mut RingHead, storage: &[u8], into: &mut [u8]) -> usize {
+    if !ring.is_sound(storage.len()) {
         return no_number();
     }
-    place.dequeue_slice(storage, into)
+    ring.dequeue_slice(storage, into)
 }

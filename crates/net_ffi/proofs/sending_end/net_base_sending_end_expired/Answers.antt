@@ -9,9 +9,8 @@ use Rattle.net_ffi.proofs.SendingEnds.{looks_none, looks_some, restarted_c}
 use Rattle.net_ffi.proofs.sending_end.net_base_sending_end_expired.Goals as goal
 
 pub returns-in-None-clause-value : goal.returns-in-None-clause-value
-returns-in-None-clause-value c = λ sound.
+returns-in-None-clause-value c = λ sound xs all.
     let it = c.args.end.now in
-    let xs = c.args.storage.now in
     let s = finite_sender_of it.sender xs in
     let timeout = given_or it.first_timeout 1000000 in
     let moment = c.moment.ensures ∙ search rules in
@@ -22,9 +21,8 @@ returns-in-None-clause-value c = λ sound.
     (No, c.ended.ensures, looks_none (sending_of it xs) _ c.args.now (says ∙ c.in-None.is) same)
 
 pub returns-in-Some-Probe-clause-value : goal.returns-in-Some-Probe-clause-value
-returns-in-Some-Probe-clause-value c = λ sound.
+returns-in-Some-Probe-clause-value c = λ sound xs all.
     let it = c.args.end.now in
-    let xs = c.args.storage.now in
     let s = finite_sender_of it.sender xs in
     let timeout = given_or it.first_timeout 1000000 in
     let moment = c.moment.ensures ∙ search rules in
@@ -37,13 +35,12 @@ returns-in-Some-Probe-clause-value c = λ sound.
       looks_some Probe (sending_of it xs) _ _ c.args.now c.take_silence.result
           (says ∙ c.in-Some-Probe.is ∙ ap Some c.in-Some-Probe.field-0-is) same
           (c.take_silence.ensures.silent s timeout (bounds_of it.bounds)
-          (sym (c.queued_from-queued.ensures.value xs refl))),
+          (sym (c.queued_from-queued.ensures.value xs all))),
     )
 
 pub returns-in-Some-Timeout-clause-value : goal.returns-in-Some-Timeout-clause-value
-returns-in-Some-Timeout-clause-value c = λ sound.
+returns-in-Some-Timeout-clause-value c = λ sound xs all.
     let it = c.args.end.now in
-    let xs = c.args.storage.now in
     let s = finite_sender_of it.sender xs in
     let timeout = given_or it.first_timeout 1000000 in
     let moment = c.moment.ensures ∙ search rules in
@@ -56,5 +53,5 @@ returns-in-Some-Timeout-clause-value c = λ sound.
       looks_some Timeout (sending_of it xs) _ _ c.args.now c.take_timeout.result
           (says ∙ c.in-Some-Timeout.is ∙ ap Some c.in-Some-Timeout.field-0-is) same
           (c.take_timeout.ensures.late s it.runs timeout (bounds_of it.bounds)
-          (sym (c.queued_from-queued-in-Some-Timeout.ensures.value xs refl))),
+          (sym (c.queued_from-queued-in-Some-Timeout.ensures.value xs all))),
     )
