@@ -385,6 +385,17 @@ NET_BASE_MUST_USE static inline bool net_bound_sending_end_is_recovering(
     return net_base_sending_end_is_recovering(NET_BOUND_HEAD(end));
 }
 
+/** `net_base_finite_receiver_acknowledged`, of the receiver of an end. */
+NET_BASE_MUST_USE static inline bool net_bound_receiving_end_acknowledged(
+    const struct net_bound_receiving_end *end, uint64_t *number) {
+    return net_base_finite_receiver_acknowledged(end ? &end->head.receiver : NULL, number);
+}
+/** `net_base_finite_receiver_has_read_all`, of the receiver of an end. */
+NET_BASE_MUST_USE static inline bool net_bound_receiving_end_has_read_all(
+    const struct net_bound_receiving_end *end) {
+    return net_base_finite_receiver_has_read_all(end ? &end->head.receiver : NULL);
+}
+
 /** @cond */
 #if defined __GNUC__ && !defined __clang__
 #pragma GCC diagnostic pop

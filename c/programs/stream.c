@@ -141,7 +141,7 @@ static void acknowledge(int64_t now) {
 static void take_segment(const struct segment *segment, int64_t now) {
     uint64_t next;
     struct net_base_kept_counts counts;
-    must(net_base_finite_receiver_acknowledged(&to.head.receiver, &next), "next");
+    must(net_bound_receiving_end_acknowledged(&to, &next), "next");
     struct net_base_segment numbers = {
         position_of(segment->number, next), segment->size + segment->is_last, false, true, false};
     enum net_base_arrival_status arrival = net_bound_receiving_end_classify(&to, &numbers);
@@ -174,7 +174,7 @@ static void run(uint64_t first, const uint8_t *data, size_t size, bool is_slow) 
     must(net_bound_sending_end_init(&from, outgoing, ROOM, first, 1000000, &BOUNDS), "init");
     struct net_base_announcement opened = {0, first, window};
     must(net_bound_sending_end_open(&from, &opened, MSS, true, 0), "open");
-    for (int64_t now = 0; !net_base_finite_receiver_has_read_all(&to.head.receiver)
+    for (int64_t now = 0; !net_bound_receiving_end_has_read_all(&to)
                           || !net_bound_sending_end_is_done(&from);
          now += 1000) {
         struct segment segment;
