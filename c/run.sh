@@ -118,8 +118,8 @@ for each in "$compiler" gcc clang arm-none-eabi-gcc; do
         grep -qE "unused-(result|value)" "$out/said"
     done
 done
-sed 's/= 256/= 200/' "$here/programs/byte_ring.h" > "$out/byte_ring.h"
-! "$compiler" -x c -fsyntax-only "$out/byte_ring.h" 2> "$out/said" || fail "byte_ring.h takes any size"
+! "$compiler" -x c -fsyntax-only -DBYTE_RING_SIZE=200 "$here/programs/byte_ring.h" 2> "$out/said" ||
+    fail "byte_ring.h takes any size"
 grep -q "a power of two" "$out/said"
 at="the header by another compiler"
 # One without GNU's extensions, whose enums are as short as their numbers: tcc, and one that says that it isn't GNU's.

@@ -1,7 +1,7 @@
 #!/usr/bin/env python3
 """Writes the declarations of the library for C from the exports of crates/net_ffi.
 
-    python3 tools/ffi.py               writes c/net_base.h, net_bound.h, the shim, net_base.pc, and duties in docs/C.md
+    python3 tools/ffi.py               writes c/net_base.h, net_bound.h, the shim, net_base.pc and abi.txt
     python3 tools/ffi.py --check       compares the files with what it would write; status 1 if one is stale
     python3 tools/ffi.py --tests FILE  writes the program that calls each export at the values of exports.txt
     python3 tools/ffi.py --through FILE     writes the header by which that program makes the calls of net_bound.h
@@ -17,9 +17,8 @@ It reads, in the order of the modules in lib.rt, but those in FIRST before,
 A slice is a pointer and then a length, with `_length` after the slice's name; `&T` and `&mut T` are pointers. In C a
 struct's name is in snake case, without `Net` before and `Head` after it, and has the prefix `net_base_`. The doc
 comment of a module heads its section, a group of doxygen's, but for what follows its first paragraph: that is in the
-comment of the section's head. Of a struct of another crate only the first paragraph is taken. The duties and refusals
-in the crate's own comment are in the header, and the duties in docs/C.md. The index in the header is of the
-sections, in their order.
+comment of the section's head. Of a struct of another crate only the first paragraph is taken. The crate's own comment,
+with the duties and refusals, begins the header. The index there is of the sections, in their order.
 """
 import argparse
 import dataclasses
@@ -39,8 +38,6 @@ ABI = ROOT / "c/abi.txt"
 # Modules whose sections come first, by task.
 FIRST = ["refusals", "ring", "packets", "fragments", "parts_sum", "finite_receiver", "receiving_end", "sending_end"]
 PAGE = ROOT / "docs/C.md"
-PAGE_BEGIN = "<!-- Written by tools/ffi.py from crates/net_ffi/src/lib.rt, up to the line END. -->"
-PAGE_END = "<!-- END -->"
 TEMPLATE = ROOT / "tools/parts/net_base.h.in"
 WIDTH = 100
 C_TYPES = {"usize": "size_t", "bool": "bool"}
@@ -501,18 +498,6 @@ def group(doc, name, structs):
     return [line.replace("\0", "") for line in lines]
 
 
-def page(crate, path):
-    """The page with its duties written anew."""
-    words = re.sub(r"\n(?! *\d+\. |\n)", " ", dict(root_sections(crate))["Duties"])
-    return between(path.read_text(), PAGE_BEGIN, "## Duties\n\n" + "\n".join(wrapped_text(words, 120)) + "\n")
-
-
-def between(text, begin, middle):
-    """A text with another middle, from the line that begins it up to the line END."""
-    before, rest = text.split(begin + "\n", 1)
-    return before + begin + "\n" + middle + PAGE_END + rest.split(PAGE_END, 1)[1]
-
-
 def abi(text):
     """The lines of c/abi.txt: each number of the interface, with the digest of the header's declarations without
     comments. A number that has another digest there is refused: a new line with the next number alone gets the
@@ -561,7 +546,7 @@ def main():
         return
     header = c_part(library, EXPORTS)
     texts = {HEADER: header, ABI: abi(header), CONFIG: config(), shim.OUT: shim.text(library),
-             bound.OUT: bound.text(library), PAGE: page(EXPORTS, PAGE)}
+             bound.OUT: bound.text(library)}
     stale = put(texts, options.check)
     exports.program(library)  # which reads the header, and stops at a row that is wrong
     sys.exit(stale)

@@ -1,5 +1,10 @@
 /* A ring of bytes that two sides share without a lock: threads, or an interrupt and what it interrupts. Any program may
  * have a copy; docs/C.md says what it isn't for.
+ *
+ * With an RTOS nothing else is needed between one interrupt and one task. To let the task sleep, notify it after the put:
+ * in FreeRTOS by vTaskNotifyGiveFromISR, for which the task waits by ulTaskNotifyTake. We haven't tried this. If two
+ * tasks write, they need a mutex between them. With DMA into a buffer of its own, let the interrupt of the idle line put
+ * the new bytes into the ring.
  */
 #ifndef BYTE_RING_H
 #define BYTE_RING_H
@@ -19,7 +24,9 @@ typedef _Atomic size_t byte_ring_count;
 #define BYTE_RING_ASSERT _Static_assert
 #endif
 
-enum { BYTE_RING_SIZE = 256 }; /* a power of two */
+#ifndef BYTE_RING_SIZE
+#define BYTE_RING_SIZE 256
+#endif
 BYTE_RING_ASSERT(BYTE_RING_SIZE > 0 && (BYTE_RING_SIZE & (BYTE_RING_SIZE - 1)) == 0, "a power of two: counts wrap");
 
 /* A ring of zeros is empty. Both counts run free: what is in it is their difference. */

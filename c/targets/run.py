@@ -449,6 +449,8 @@ def figures_of_parts(programs):
     found["copy `byte_ring.h`"] = {"RAM": str(ram["byte_ring"] - 256),
                                    "Code": str(code_size(programs.way, programs.compiled(source, ["-Os"]))),
                                    "Instructions": str(rounds["byte_ring.h: a byte in and out"])}
+    for name, size in re.findall(r"^function (\S+): (\d+)$", said, flags=re.M):
+        found[f"`{name}`"] = {"Bytes": f"{int(size):,}"}
     for name, (most, average) in longest(programs).items():
         found[f"`{name}`"] = {"Most": f"{most:,}", "On average": f"{average:,}"}
     return found
