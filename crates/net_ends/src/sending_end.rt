@@ -16,28 +16,21 @@
 //
 // A timeout leaves what was reported. RFC 2018, section 8, has a sender forget all reports then, since the peer may
 // have dropped what it reported. Only a peer that has dropped it acknowledges up to a number that it reported. So
-// after each acknowledgement the first number that isn't acknowledged counts as missing (clause `missing` of
+// after each acknowledgement the first number that isn't acknowledged counts as missing (`missing` in the contract of
 // `acknowledged`), and a timeout sends it again.
 
-ghost use Rattle.std.specs.Prelude.{◌≡◌, ◌↔◌, ◌-◌, ◌+◌, ◌<◌, ◌≤◌, ◌&&◌, ◌==◌, ℕ, Option, Some, IsTrue, IsFalse, min};
-ghost use Rattle.std.specs.Prelude.{IfSome, IfNone, is_some, is_none, ◌||◌, ◌++◌, nat_lt, length, Bool};
-ghost use Rattle.net_assembler.specs.Positions.{contains};
+ghost use Rattle.std.specs.Prelude.{◌≡◌, ◌-◌, ◌+◌, ◌<◌, ◌≤◌, ◌==◌, ◌||◌, ◌++◌, length, min, is_none};
 ghost use Rattle.net_tcp.specs.LossRecovery.{is_active, is_wrong, taken_back};
-ghost use Rattle.net_receiver.specs.FiniteSender.{accepts, finite_room};
+ghost use Rattle.net_receiver.specs.FiniteSender.{finite_room};
 ghost use Rattle.net_receiver.specs.Finite.{no_end};
 ghost use Rattle.net_tcp.specs.Sack.{is_permitted};
-ghost use Rattle.net_ends.specs.Ends.{new_end, is_pure, first, end, is_acceptable, asks, may_send, after_event, Wrote};
-ghost use Rattle.net_ends.specs.Ends.{Shut, Heard, Looked, Sent, Rested, Resumed, IsSegment, round_trip, Opened};
-ghost use Rattle.net_ends.specs.Ends.{Forgot, Opening, timed_out, has_timed_out, is_overdue, reports_of, new_of, kept};
-ghost use Rattle.net_ends.specs.Ends.{begins_of, is_worth, hurries, Enabled, AreHoles, open_to, found, due_of};
-ghost use Rattle.net_ends.specs.Ends.{range_of, IsProbed, probe_of, is_probe};
-ghost use Rattle.net_ends.specs.Acknowledgements.{reported_by, numbers_of, unsent_of, doubted, Recovers, is_sought};
-ghost use Rattle.net_ends.specs.Acknowledgements.{after_segment, after_wait, expiry_of};
-ghost use Rattle.net_receiver.specs.Scoreboards.{IsEnd, IsSoundBoard};
+ghost use Rattle.net_ends.specs.Calls.{Hears, Looks, Chooses};
+ghost use Rattle.net_ends.specs.Ends.{new_end, is_pure, first, after_event, Wrote, Shut, Resumed, IsSegment};
+ghost use Rattle.net_ends.specs.Ends.{round_trip, Opened, Forgot, Opening, Enabled};
+ghost use Rattle.net_receiver.specs.Scoreboards.{IsSoundBoard};
 ghost use Rattle.net_ends.specs.Parts.{end_of};
 ghost use Rattle.net_ends.specs.Rules.{queued_of};
-ghost use Rattle.net_tcp.specs.Retransmission.{has_ended, has_expired, expires_at};
-ghost use Rattle.std.specs.Option.{option_or};
+ghost use Rattle.net_tcp.specs.Retransmission.{has_expired, expires_at};
 ghost use Rattle.net_tcp.specs.Windows.{acknowledgement_number};
 
 use crate::sending_head::SendingHead;
@@ -506,34 +499,8 @@ impl<S: Storage<u8>, const N: usize> SendingEndOver<S, N> {
         segment: AckSegment,
         now: Instant,
     ) -> Acknowledged
-        ensures refused { (result ≡ Acknowledged.Refused)
-            ↔ IsFalse (is_acceptable self.old it.ack) }
-        ensures old { (result ≡ Acknowledged.Old)
-            ↔ (IsTrue (is_acceptable self.old it.ack) × IsFalse (accepts self.old.sender it.ack)) }
-        ensures new { IsTrue (accepts self.old.sender it.ack) →
-            new_of result ≡ it.ack - first self.old }
-        ensures step { self.new ≡ after_event self.old
-            (Heard self.new.reported self.new.recovery (reports_of result) it.seq it.ack
-            it.window now) }
-        ensures missing { IsTrue (accepts self.old.sender it.ack) → it.ack < self.old.sender.sent →
-            IsFalse (contains self.new.reported it.ack) }
-        ensures reported { IsTrue (accepts self.old.sender it.ack) → self.new.reported
-            ≡ kept (reported_by N self.old.sender.sent self.old.reported it.ack blocks.now).0
-            it.ack self.old.sender.sent }
-        ensures reports { IsTrue (accepts self.old.sender it.ack) → reports_of result
-            ≡ (reported_by N self.old.sender.sent self.old.reported it.ack blocks.now).1 }
-        ensures recovery { IsTrue (accepts self.old.sender it.ack) →
-            Recovers N self.old.size (numbers_of self.old.sender)
-            (unsent_of self.old.sender self.old.reported
-            self.old.recovery) self.old.reported self.old.recovery it.ack blocks.now
-            (is_pure segment && (it.window == self.old.last))
-            (reports_of result) self.new.recovery (begins_of result) }
-        ensures unchanged { IsFalse (is_acceptable self.old it.ack) → self.new ≡ self.old }
-        ensures twice { IsTrue (is_acceptable self.old it.ack) →
-            IsFalse (accepts self.old.sender it.ack) → self.new ≡ record self.old {
-              recovery = doubted (numbers_of self.old.sender) it.ack blocks.now
-                  self.old.recovery;
-            } }
+        ensures { Hears N self.old it.seq it.ack it.window blocks.now (is_pure segment) now result
+            self.new }
     {
         let numbers = self.numbers();
         let said = self.head.acknowledged(
@@ -608,17 +575,7 @@ impl<S: Storage<u8>, const N: usize> SendingEndOver<S, N> {
     /// assert!(segment.is_again);
     /// ```
     pub fn expired(&mut self, now: Instant) -> Expired
-        ensures no { (result ≡ Expired.No) ↔ IsFalse (is_overdue self.old now) }
-        ensures unchanged { IsFalse (has_expired self.old.timer now) → self.new ≡ self.old }
-        ensures step { self.new ≡ after_event self.old (Looked self.new.recovery now) }
-        ensures value { (highest : ℕ) → IsEnd self.old.reported highest →
-            result ≡ expiry_of self.old now highest }
-        ensures recovery { (highest : ℕ) → IsEnd self.old.reported highest →
-            IsTrue (has_expired self.old.timer now) →
-            IsFalse (has_ended self.old.timer now) →
-            self.new.recovery ≡ after_wait (is_sought self.old) (numbers_of self.old.sender)
-            highest self.old.recovery }
-        ensures state { IsTrue (has_timed_out self.old now) → self.new ≡ timed_out self.old now }
+        ensures { Looks self.old now result self.new }
     {
         match self.head.timer.expire(self.bounds, now) {
             Some(Expiry::Probe) => {
@@ -656,43 +613,7 @@ impl<S: Storage<u8>, const N: usize> SendingEndOver<S, N> {
     /// assert_eq!(sent, [(100, 108), (108, 116)]);
     /// ```
     pub fn next_segment(&mut self, congestion_window: u64, now: Instant) -> Option<Outgoing>
-        ensures within { IfSome result (λ r. IsTrue (may_send self.old r.pos r.end)) }
-        ensures probe { IsTrue (asks self.old) →
-            IfSome result (λ r. (r.pos ≡ first self.old) × (r.end ≡ first self.old + 1)) }
-        ensures asked { IsTrue (asks self.old) → IsTrue (is_some result) }
-        ensures worth { IfSome result (λ r. IsFalse (hurries self.old) →
-            self.old.sender.sent ≤ r.pos →
-            IsTrue (is_worth self.old r.pos r.end)) }
-        ensures late { IsTrue self.old.probes →
-            IsFalse (is_active self.old.recovery (first self.old)) →
-            first self.old ≡ self.old.sender.sent → first self.old < end self.old →
-            IsTrue (is_some result) }
-        ensures next { (lost others : Option (ℕ × ℕ)) → IsFalse (asks self.old) →
-            IsFalse self.old.overdue →
-            AreHoles self.old (open_to self.old) lost others →
-            range_of result ≡ due_of self.old
-            (found self.old (open_to self.old) congestion_window lost others) }
-        ensures answer { (lost others : Option (ℕ × ℕ)) (highest : ℕ) (hole : Option (ℕ × ℕ)) →
-            IsFalse (asks self.old) → IsTrue self.old.overdue →
-            AreHoles self.old (open_to self.old) lost others →
-            IsProbed self.old (open_to self.old) highest hole →
-            range_of result ≡ option_or (due_of self.old
-            (found self.old (open_to self.old) congestion_window lost others))
-            (probe_of self.old (open_to self.old) highest hole) }
-        ensures again { IfSome result (λ r. r.is_again ≡ nat_lt r.pos self.old.sender.sent) }
-        ensures rests { IfNone result (self.new ≡ after_event self.old (Rested now)) }
-        ensures sends { IfSome result (λ r. self.new
-            ≡ after_event self.old (Sent self.new.recovery r.pos r.end now)) }
-        ensures recovery { (lost others : Option (ℕ × ℕ)) →
-            AreHoles self.old (open_to self.old) lost others → IfSome result (λ r.
-            self.new.recovery ≡ after_segment (numbers_of self.old.sender) r.pos r.end
-            (asks self.old) (is_probe self.old congestion_window lost others)
-            self.old.recovery) }
-        ensures noted { IfSome result (λ r. (probe : Bool)
-            × (IsTrue probe → IsTrue self.old.overdue)
-            × (self.new.recovery
-            ≡ after_segment (numbers_of self.old.sender) r.pos r.end (asks self.old) probe
-            self.old.recovery)) }
+        ensures { Chooses self.old congestion_window now result self.new }
     {
         let queued = self.queued();
         let Some(it) = self

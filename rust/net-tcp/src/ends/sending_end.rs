@@ -17,7 +17,7 @@
 //
 // A timeout leaves what was reported. RFC 2018, section 8, has a sender forget all reports then, since the peer may
 // have dropped what it reported. Only a peer that has dropped it acknowledges up to a number that it reported. So
-// after each acknowledgement the first number that isn't acknowledged counts as missing (clause `missing` of
+// after each acknowledgement the first number that isn't acknowledged counts as missing (`missing` in the contract of
 // `acknowledged`), and a timeout sends it again.
 
 use crate::ends::sending_head::SendingHead;

@@ -5,7 +5,8 @@ use Rattle.net_tcp.specs.Retransmission.{Timer, timer_of, expiry}
 use Rattle.net_tcp.specs.declared.retransmission_timer.Expiry.TheVariants.{Probe, Timeout}
 use Rattle.net_ends.specs.declared.sending_end.Expired.TheVariants.{No}
 use Rattle.net_ffi.specs.SendingEnds.{sending_of}
-use Rattle.net_ffi.proofs.SendingEnds.{looks_none, looks_some, restarted_c}
+use Rattle.net_ends.proofs.Expiries.{looks_none, looks_some}
+use Rattle.net_ffi.proofs.SendingEnds.{restarted_c}
 use Rattle.net_ffi.proofs.sending_end.net_base_sending_end_expired.Goals as goal
 
 pub returns-in-None-clause-value : goal.returns-in-None-clause-value

@@ -23,22 +23,10 @@ hears_of n m d e left f seq ack window bs empty pure now said many view stays no
 pub returns : goal.returns
 returns g c =
     let is = ap (λ (e : End). numbers_of e.sender) c.self.view_is ∙ sym c.numbers-numbers.ensures.value in
-    let all = hears_of _ g.row.N _ c.args.self.now _ _ c.args.it.seq c.args.it.ack c.args.it.window c.args.blocks.now
+    hears_of _ g.row.N _ c.args.self.now _ _ c.args.it.seq c.args.it.ack c.args.it.window c.args.blocks.now
     c.is_pure.result _ c.args.now c.acknowledged-said.result c.self.told c.self.view_is
     (ap (λ (x : FiniteSenderState). end_of x c.acknowledged-said.new.self c.acknowledged-said.new.runs
     c.self.inside.first_timeout c.self.inside.bounds) (acknowledges _ _ c.args.it.ack
     c.acknowledge-is_taken.result c.acknowledge-is_taken.ensures.accepted c.acknowledge-is_taken.ensures.state
     c.acknowledge-is_taken.ensures.refused)) c.is_pure.ensures
-    (c.acknowledged-said.ensures.hears c.self.inside.sender c.self.inside.first_timeout is) in
-    record {
-      refused = all.refused;
-      old = all.old;
-      new = all.new;
-      step = all.step;
-      missing = all.missing;
-      reported = all.reported;
-      reports = all.reports;
-      recovery = all.recovery;
-      unchanged = all.unchanged;
-      twice = all.twice;
-    }
+    (c.acknowledged-said.ensures.hears c.self.inside.sender c.self.inside.first_timeout is)

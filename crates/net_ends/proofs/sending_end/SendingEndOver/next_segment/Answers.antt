@@ -25,21 +25,7 @@ returns-in_default g c =
     c.args.congestion_window c.args.now r
     (end_of (marked s r) c.next_segment.new.self c.self.inside.runs c.self.inside.first_timeout c.self.inside.bounds))
     c.in_default.is (c.next_segment.ensures.chooses s c.self.inside.first_timeout is) in
-    let all = chooses_of _ c.args.self.now _ _ c.args.congestion_window c.args.now _ c.self.view_is refl chosen in
-    record {
-      within = all.within;
-      probe = all.probe;
-      asked = all.asked;
-      worth = all.worth;
-      late = all.late;
-      next = all.next;
-      answer = all.answer;
-      again = all.again;
-      rests = all.rests;
-      sends = all.sends;
-      recovery = all.recovery;
-      noted = all.noted;
-    }
+    chooses_of _ c.args.self.now _ _ c.args.congestion_window c.args.now _ c.self.view_is refl chosen
 
 pub returns : goal.returns
 returns g c =
@@ -50,22 +36,8 @@ returns g c =
     c.args.congestion_window c.args.now r
     (end_of (marked s r) c.next_segment.new.self c.self.inside.runs c.self.inside.first_timeout c.self.inside.bounds))
     c.in-Some.is (c.next_segment.ensures.chooses s c.self.inside.first_timeout is) in
-    let all = chooses_of _ c.args.self.now _ _ c.args.congestion_window c.args.now _ c.self.view_is
+    chooses_of _ c.args.self.now _ _ c.args.congestion_window c.args.now _ c.self.view_is
     (ap (λ (x : FiniteSenderState). end_of x c.next_segment.new.self c.self.inside.runs c.self.inside.first_timeout
     c.self.inside.bounds) (marks _ _ c.in-Some.it.end
     c.mark_sent-is_written.result c.mark_sent-is_written.ensures.accepted c.mark_sent-is_written.ensures.mark
-    c.mark_sent-is_written.ensures.refused)) chosen in
-    record {
-      within = all.within;
-      probe = all.probe;
-      asked = all.asked;
-      worth = all.worth;
-      late = all.late;
-      next = all.next;
-      answer = all.answer;
-      again = all.again;
-      rests = all.rests;
-      sends = all.sends;
-      recovery = all.recovery;
-      noted = all.noted;
-    }
+    c.mark_sent-is_written.ensures.refused)) chosen

@@ -50,12 +50,12 @@ returns-clause-chooses c = λ s timeout is.
       worth = λ calm new. worth_is e from to is_due calm new;
       late = λ _ _ _ _. refl;
       next = λ lost others off calm holes. sym some ∙ chose.next lost others off calm holes;
+      answer = λ lost others highest hole off on holes probed.
+          sym some ∙ chose.answer lost others highest hole off on holes probed;
       again = ap (λ (q : Queued). nat_lt from q.numbers.sent) (sym is);
       rests = tt;
       sends = ap (λ (h : ScoreboardHead). left (reported_by h c.args.runs.now) (timer_of c.sent.new.self)) sent.rest
           ∙ ap (left (board_of c.args.self.now.buffer c.args.runs.now)) timer ∙ sym (sent_is e rec from to c.args.now may);
-      answer = λ lost others highest hole off on holes probed.
-          sym some ∙ chose.answer lost others highest hole off on holes probed;
       recovery = λ lost others holes. left_is ∙ ap (λ (b : Bool). after_segment (numbers_of s) from to (asks e) b e.recovery)
           (chose.counts lost others holes);
       noted = (tail, chose.overdue, left_is);
