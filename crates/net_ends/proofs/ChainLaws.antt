@@ -1,8 +1,8 @@
 -- Why answers end: an answer is answered only where something has come since.
-use Rattle.std.proofs.Common.{◌≡◌, ℕ, ◌+◌, ◌≤◌, refl, ap, ◌∙◌, true, false, arith, rules, List, [], ◌∷◌}
-use Rattle.std.proofs.Common.{inl, inr, subst}
+use Rattle.std.proofs.Common.{◌≡◌, ℕ, ◌+◌, ◌≤◌, refl, sym, true, false, arith, List, [], ◌∷◌, inl, inr, subst}
 use Rattle.std.specs.Prelude.{Bool, length, if◌then◌else◌}
 use Rattle.std.specs.Prelude.{ℤ, pos, ◌-◌, ◌*◌, ◌^◌, ◌⊎◌, ◌≤ℤ◌, ◌+ℤ◌, ◌-ℤ◌, ◌&&◌, ◌||◌, not, int_le}
+use Rattle.std.proofs.lemmas.Bool.{cond-true}
 use Rattle.std.proofs.lemmas.Int.{ints}
 use Rattle.std.specs.Int.{from_bool}
 use Rattle.net_base.specs.Time.{moment_after}
@@ -14,24 +14,15 @@ use Rattle.net_ends.specs.Chains.{after_events, Turn, after_turn, IsTurn, AreTur
 use Rattle.net_tcp.specs.Windows.{acknowledgement_number}
 use Rattle.net_receiver.specs.OneStream.{LimitGrows}
 use Rattle.net_receiver.specs.Finite.{SoundEndStays, AcknowledgedGrows}
-use Rattle.net_receiver.specs.FiniteSender.{FiniteSenderState, first_number, accepts, acknowledged_below}
+use Rattle.net_receiver.specs.FiniteSender.{accepts}
 use Rattle.net_ends.specs.Ends as sending
-use Rattle.net_ends.specs.Ends.{End, first}
+use Rattle.net_ends.specs.Ends.{first}
 use Rattle.net_ends.specs.Receiving.{IsSoundReceiving}
 use Rattle.net_ends.proofs.Progress.{accept_says}
-use Rattle.net_ends.proofs.PairLaws.{acknowledged_first}
+use Rattle.net_ends.proofs.PairLaws.{numbers_if}
 use Rattle.net_ends.proofs.ReceivingLaws.{number_stays, stays_sound}
 
 -- ---- the number of an answer
-number_by : (b : Bool) (s : FiniteSenderState) (g h : End) (n : ℕ) → b ≡ true → n ≤ s.sent →
-    g.sender ≡ (if b then acknowledged_below s n else s) →
-    let e = if b then g else h in n ≤ acknowledgement_number e.peer (first e) e.sender.sent
-number_by true s g h n on fits of =
-    let low : first g ≡ n = ap first_number of ∙ acknowledged_first s n in
-    let sent : g.sender.sent ≡ s.sent = ap (λ t. t.sent) of in
-    omega (arith, low, sent, fits)
-number_by false s g h n on fits of = absurd (search (rules, on))
-
 module _ (sound : SoundEndStays) (grows : AcknowledgedGrows) (limits : LimitGrows) where
   -- ---- what comes stays
   record Grows (h g : Host) : Type 0 where
@@ -65,11 +56,14 @@ module _ (sound : SoundEndStays) (grows : AcknowledgedGrows) (limits : LimitGrow
       let here = after_events n far t.before in
       let before = all_grow n far t.before is in
       let e = here.sender in
-      let heard = sending.heard e t.s t.r t.says (number near) (next near) t.window t.now in record {
+      let heard = sending.heard e t.s t.r t.says (number near) (next near) t.window t.now in
+      let numbers = numbers_if (accepts e.sender (next near)) e.sender (next near) of.accepted in
+      let fits = (accept_says e.sender (next near) of.accepted).1 in record {
         rises = before.rises;
         sound_then = before.sound_then;
-        reaches = number_by (accepts e.sender (next near)) e.sender heard (record e { recovery = t.r }) (next near)
-            of.accepted (accept_says e.sender (next near) of.accepted).1 refl;
+        reaches = subst (λ g. next near ≤ acknowledgement_number g.peer (first g) g.sender.sent)
+            (sym (cond-true (accepts e.sender (next near)) heard (record e { recovery = t.r }) of.accepted))
+            (omega (arith, numbers, fits));
       }
 
   -- ---- turns
@@ -135,9 +129,6 @@ question true true l from now to more order last room due is =
 question true false l from now to more order last room due is = uncounted l from now to (more l) order (is l)
 question false c l from now to more order last room due is = uncounted l from now to (more l) order (is l)
 
-due_says : (until now : ℤ) → int_le until now ≡ true → until ≤ℤ now
-due_says until now is = grind (arith, ints, is)
-
 within_says : (from to : ℤ) (qs : List (Segment × ℤ)) → AreWithin from to qs → from ≤ℤ to
 within_says from to [] is = is
 within_says from to (q ∷ qs) is = let one = is.0 in let more = within_says q.1 to qs is.1 in omega (arith, ints, one, more)
@@ -147,7 +138,7 @@ limit_holds : (l : AnswerLimit) (from to : ℤ) (qs : List (Segment × ℤ)) →
 limit_holds l from to [] is room = record { all = omega (arith, ints, is); after = inl refl }
 limit_holds l from to (q ∷ qs) is room =
     question (is_limited q.0) (int_le l.until q.1) l from q.1 to (λ l. answered l qs) is.0 (within_says q.1 to qs is.1) room
-    (due_says l.until q.1) (λ l. limit_holds l q.1 to qs is.1 room)
+    (λ due. grind (arith, ints, due)) (λ l. limit_holds l q.1 to qs is.1 room)
 
 pub limited_then : (l : AnswerLimit) (from to : ℤ) (qs : List (Segment × ℤ)) → AreWithin from to qs →
     (to +ℤ pos 500000) ≤ℤ pos (2 ^ 63 - 1) → pos (500000 * answered l qs) ≤ℤ ((to -ℤ from) +ℤ pos 500000)

@@ -1,10 +1,12 @@
 -- Why nothing is sent beyond what the peer allowed, and the timer runs.
 use Rattle.std.proofs.Common.{◌≡◌, ℕ, ℤ, ◌-◌, ◌<◌, ◌≤◌, refl, sym, ap, ◌∙◌, ◌+◌, inl, inr, arith, rules, List, [], ◌∷◌}
-use Rattle.std.proofs.Common.{◌++◌, true, false}
+use Rattle.std.proofs.Common.{◌++◌, true, false, subst}
 use Rattle.std.specs.Prelude.{◌⊎◌, All, Bool, IsTrue, min, ◌&&◌, nat_le, nat_lt, is_some, if◌then◌else◌}
 use Rattle.net_tcp.specs.Retransmission.{running, lasting, timed_after, after_sending, Timer as RetransmissionTimer}
 use Rattle.net_tcp.specs.declared.retransmission.TimeoutBounds.{TimeoutBounds}
 use Rattle.std.proofs.lemmas.List.{length-drop}
+use Rattle.std.proofs.lemmas.List.Elements.{All-cons}
+use Rattle.std.proofs.lemmas.Bool.{and_parts, cond_both, cond-true}
 use Rattle.std.proofs.lemmas.Bool.Decides.{nat_tests}
 use Rattle.net_receiver.specs.SenderState.{end_of}
 use Rattle.net_assembler.specs.Positions.{Positions}
@@ -14,7 +16,7 @@ use Rattle.net_receiver.specs.FiniteSender.{sender_after_commands, sender_after_
 use Rattle.net_receiver.specs.FiniteSender.{Marks}
 use Rattle.net_ends.specs.Ends.{End, Event, Opened, Forgot, Enabled, Opening, Wrote, Shut, Heard, Looked, Sent, Rested}
 use Rattle.net_ends.specs.Ends.{Resumed, after_event, after_events, commands, commands_of, Run, run, run_on, begun}
-use Rattle.net_ends.specs.Ends.{IsAllowed, first, rest, IsUnacknowledged, runs, end, may_send, limit, SentRange, asks}
+use Rattle.net_ends.specs.Ends.{IsAllowed, first, rest, IsUnacknowledged, runs, end, may_send, SentRange, asks}
 use Rattle.net_ends.specs.Ends.{is_due}
 
 -- ---- the sender's commands
@@ -59,10 +61,6 @@ refines e (v ∷ vs) =
 abbrev pub Runs : End → Type 0
 Runs e = IsUnacknowledged e → IsTrue (runs e)
 
-runs_by : (g : Bool) (e d : End) → (g ≡ true → Runs d) → Runs e → Runs (if g then d else e)
-runs_by true e d taken kept = taken refl
-runs_by false e d taken kept = kept
-
 -- what is sent has a timer run
 running_runs : (delay : ℕ) (alone new : Bool) (now : ℤ) (t : RetransmissionTimer) →
     IsTrue (is_some (running delay alone new now t).ends_at)
@@ -72,30 +70,18 @@ timed_runs : (from to sent : ℕ) (now : ℤ) (t : RetransmissionTimer) → IsTr
     IsTrue (is_some (timed_after from to sent now t).ends_at)
 timed_runs from to sent now t on = search rules
 
-either_runs : (g : Bool) (t u : RetransmissionTimer) → g ≡ true → IsTrue (is_some t.ends_at) →
-    IsTrue (is_some (if g then t else u).ends_at)
-either_runs true t u is on = on
-either_runs false t u is on = search rules
-
 sending_runs : (b : TimeoutBounds) (from to first sent : ℕ) (now : ℤ) (t : RetransmissionTimer) →
     nat_lt from to ≡ true →
     IsTrue (is_some (after_sending b from to first sent now t).ends_at)
-sending_runs b from to first sent now t some = either_runs (nat_lt from to)
-    (timed_after from to sent now
-    (lasting (nat_lt sent to) from (running b.ack_delay (nat_le sent first) (nat_lt sent to) now t))) t some
+sending_runs b from to first sent now t some = subst (λ (u : RetransmissionTimer). IsTrue (is_some u.ends_at))
+    (sym (cond-true (nat_lt from to) (timed_after from to sent now
+    (lasting (nat_lt sent to) from (running b.ack_delay (nat_le sent first) (nat_lt sent to) now t))) t some))
     (timed_runs from to sent now
     (lasting (nat_lt sent to) from (running b.ack_delay (nat_le sent first) (nat_lt sent to) now t))
     (running_runs b.ack_delay (nat_le sent first) (nat_lt sent to) now t))
 
-left_of : (a b c d : Bool) → (a && b && c && d) ≡ true → a ≡ true
-left_of true b c d all = refl
-left_of false b c d all = search rules
-
-some_of : (e : End) (from to : ℕ) → may_send e from to ≡ true → nat_lt from to ≡ true
-some_of e from to may = left_of (nat_lt from to) (nat_le to (limit e)) (nat_le (first e) from) (is_due e from to) may
-
 sent_runs : (e : End) (r : LossRecovery) (from to : ℕ) (now : ℤ) → Runs e → Runs (after_event e (Sent r from to now))
-sent_runs e r from to now is = runs_by (may_send e from to) e
+sent_runs e r from to now is = cond_both (may_send e from to)
     (record e {
       sender = sender_after_command e.sender (Marks to);
       recovery = r;
@@ -103,7 +89,8 @@ sent_runs e r from to now is = runs_by (may_send e from to) e
       probes = false;
       overdue = false;
     })
-    (λ g some. sending_runs e.bounds from to (first e) e.sender.sent now e.timer (some_of e from to g)) is
+    e Runs (λ g some. sending_runs e.bounds from to (first e) e.sender.sent now e.timer
+    (and_parts _ _ (and_parts _ _ (and_parts _ _ g).0).0).0) (λ _. is)
 
 runs_on : (e : End) (v : Event) → Runs e → Runs (after_event e v)
 runs_on e (Opened seq ack window size reports now) is = search rules
@@ -137,11 +124,6 @@ allowed_by true due from to first edge end most told may =
     inr (grind (arith, nat_tests, may), grind (arith, nat_tests, may))
 allowed_by false due from to first edge end most told may = inl (grind (arith, nat_tests, may, told))
 
-logged : (b : Bool) (r : SentRange) (log : List SentRange) → (b ≡ true → IsAllowed r) → All IsAllowed log →
-    All IsAllowed (if b then r ∷ log else log)
-logged true r log one all = let first = one refl in search rules
-logged false r log one all = all
-
 sent_allowed : (u : Run) (from to : ℕ) → u.end.peer.edge ≤ u.edge → may_send u.end from to ≡ true →
     IsAllowed (record { from = from; to = to; first = first u.end; edge = u.edge })
 sent_allowed u from to told may =
@@ -158,8 +140,10 @@ keeps u (Heard s r says seq ack window now) is = record { told = search rules; a
 keeps u (Looked r now) is = record { told = search rules; allowed = is.allowed }
 keeps u (Sent r from to now) is = record {
   told = search rules;
-  allowed = logged (may_send u.end from to) (record { from = from; to = to; first = first u.end; edge = u.edge }) u.log
-      (sent_allowed u from to is.told) is.allowed;
+  allowed =
+      let r : SentRange = record { from = from; to = to; first = first u.end; edge = u.edge } in
+      cond_both (may_send u.end from to) (r ∷ u.log) u.log (All IsAllowed)
+      (λ may. All-cons IsAllowed r u.log (sent_allowed u from to is.told may) is.allowed) (λ _. is.allowed);
 }
 keeps u (Rested now) is = record { told = search rules; allowed = is.allowed }
 keeps u (Resumed r) is = record { told = search rules; allowed = is.allowed }

@@ -1,6 +1,6 @@
 -- Why each of two ends takes what the other acknowledges, whatever the path between them does.
 use Rattle.std.proofs.Common.{◌≡◌, ℕ, ℤ, ◌+◌, ◌-◌, ◌<◌, ◌≤◌, inl, inr, refl, sym, ap, ◌∙◌, subst, true, false, arith}
-use Rattle.std.proofs.Common.{rules, List, [], ◌∷◌, ◌++◌, length-take, zero, suc}
+use Rattle.std.proofs.Common.{List, [], ◌∷◌, ◌++◌, length-take, zero, suc}
 use Rattle.std.specs.Prelude.{Bool, min, max, ◌⊎◌, length, if◌then◌else◌, ◌&&◌, nat_lt, nat_le, nat_eq, is_ok, is_some}
 use Rattle.std.specs.Int.{from_bool}
 use Rattle.std.proofs.lemmas.Bool.{cases_lt, both_ways, and_parts, cond_both}
@@ -52,15 +52,6 @@ queue_top v = let none = none_held v in omega (arith, none)
 fresh_top : (first capacity : ℕ) → top_of (fresh_receiver first capacity) ≤ first
 fresh_top first capacity = let none = none_held (fresh_receiver first capacity) in omega (arith, none)
 
-met_top : (b : Bool) (s : FiniteState) → top_of (if b then queue_alone s else s).receiver ≤ top_of s.receiver
-met_top true s = queue_top s.receiver
-met_top false s = omega arith
-
-met_end : (b : Bool) (s : FiniteState) (m : ℕ) → (s.end < m) ⊎ (s.end ≡ no_end) →
-    ((if b then queue_alone s else s).end < m) ⊎ ((if b then queue_alone s else s).end ≡ no_end)
-met_end true s m is = inr refl
-met_end false s m is = is
-
 end_if : (b ok l : Bool) (met : FiniteState) (r : ReceiverState) (e m : ℕ) → (l ≡ true → e < m) →
     (met.end < m) ⊎ (met.end ≡ no_end) →
     let t : FiniteState = if b then met else record {
@@ -72,10 +63,6 @@ end_if true ok l met r e m new was = was
 end_if false true true met r e m new was = inl (new refl)
 end_if false true false met r e m new was = was
 end_if false false l met r e m new was = was
-
-number_fits : (last : Bool) (e m : ℕ) → e + from_bool last ≤ m → last ≡ true → e < m
-number_fits true e m fits is = omega (arith, fits)
-number_fits false e m fits is = absurd (search (rules, is))
 
 capacity_by : (v : ReceiverState) (x : Verdict) → (state_after v x).capacity ≡ v.capacity
 capacity_by v KeepsNone = refl
@@ -89,7 +76,8 @@ below_after n s pos m xs last below fits =
     let at = pos + length xs in
     let met = before_segment s pos at last in
     let in_order = last && ends_in_order s pos at in
-    let low = met_top in_order s in
+    let low = cond_both in_order (queue_alone s) s (λ t. top_of t.receiver ≤ top_of s.receiver)
+    (λ _. queue_top s.receiver) (λ _. omega arith) in
     let was = below.bytes in
     let few = length-take (bytes_end met - pos) xs in
     let next = receiver_after_command n met.receiver (Segment pos (below_end met pos xs)) in record {
@@ -98,7 +86,8 @@ below_after n s pos m xs last below fits =
           (below_end met pos xs) (λ q from to. omega (arith, few, fits, to)));
       end = end_if (has_other_end met at last) (is_ok (bytes_result n met pos xs last))
           (last && nat_le at (limit_of met.receiver)) met next at m
-          (λ l. number_fits last at m fits (and_parts last _ l).0) (met_end in_order s m below.end);
+          (λ l. let one = ap from_bool (and_parts last _ l).0 in omega (arith, fits, one))
+          (cond_both in_order (queue_alone s) s (λ t. (t.end < m) ⊎ (t.end ≡ no_end)) (λ _. inr refl) (λ _. below.end));
     }
 
 capacity_after : (n : ℕ) (s : FiniteState) (pos : ℕ) (xs : List ℕ) (last : Bool) →
@@ -221,17 +210,15 @@ update_by : (b c : Bool) (w : PeerWindow) (greatest first sent seq ack window mo
     IsNearBy w.edge greatest first sent most capacity → first ≤ ack → ack + window ≤ most → window ≤ capacity →
     IsNearBy (if b then (if c then window_from seq ack window else w) else w).edge
     (if b && c then max greatest window else greatest) ack sent most capacity
-update_by true c w greatest first sent seq ack window most capacity on is low fits few =
-    window_by c w greatest first sent seq ack window most capacity is low fits few
-update_by false c w greatest first sent seq ack window most capacity on is low fits few = absurd (search (rules, on))
+update_by b c w greatest first sent seq ack window most capacity on is low fits few =
+    rw on (window_by c w greatest first sent seq ack window most capacity is low fits few)
 
-pub acknowledged_first : (s : FiniteSenderState) (n : ℕ) → first_number (acknowledged_below s n) ≡ n
+acknowledged_first : (s : FiniteSenderState) (n : ℕ) → first_number (acknowledged_below s n) ≡ n
 acknowledged_first s n = omega arith
 
 pub numbers_if : (b : Bool) (s : FiniteSenderState) (n : ℕ) → b ≡ true →
     (first_number (if b then acknowledged_below s n else s) ≡ n) × ((if b then acknowledged_below s n else s).sent ≡ s.sent)
-numbers_if true s n on = (acknowledged_first s n, refl)
-numbers_if false s n on = absurd (search (rules, on))
+numbers_if b s n on = rw on (acknowledged_first s n, refl)
 
 heard_near : (e : End) (s : Positions) (r : LossRecovery) (says : Bool) (seq ack window : ℕ) (now : ℤ)
     (edge capacity : ℕ) → accepts e.sender ack ≡ true → IsNear e edge capacity → ack + window ≤ edge →
@@ -256,11 +243,6 @@ heard_near e s r says seq ack window now edge capacity on is fits few =
       sends = omega (arith, d, numbers.0, numbers.1);
       greatest = g;
     }
-
-heard_if : (b : Bool) (e f : End) (edge capacity : ℕ) → (b ≡ true → IsNear f edge capacity) → IsNear e edge capacity →
-    IsNear (if b then f else e) edge capacity
-heard_if true e f edge capacity new was = new refl
-heard_if false e f edge capacity new was = was
 
 -- what was sent doesn't become less
 heard_sent : (b c : Bool) (s : FiniteSenderState) (e f : End) (n : ℕ) → f.sender ≡ (if c then acknowledged_below s n else s) →
@@ -355,9 +337,9 @@ sender_goes p (Heard s r says seq ack window now) edge capacity honest all is =
     let f = sending.heard e s r says seq ack window now in
     let old : End = record e { recovery = r } in
     let same = heard_sent (accepts e.sender ack) (accepts e.sender ack) e.sender old f ack refl refl in record {
-      near = heard_if (accepts e.sender ack) old f edge capacity
+      near = cond_both (accepts e.sender ack) f old (λ g. IsNear g edge capacity)
           (λ on. heard_near e s r says seq ack window now edge capacity on is was.0 was.1)
-          (near_as e old edge capacity is refl refl refl refl);
+          (λ _. near_as e old edge capacity is refl refl refl refl);
       sent = omega (arith, same);
     }
 sender_goes p (Looked r now) edge capacity honest all is =
@@ -411,21 +393,17 @@ record Holds (r t : Receiving) (m : ℕ) : Type 0 where
   kept : IsBelow t.receiver m
   capacity : t.receiver.receiver.capacity ≡ r.receiver.receiver.capacity
 
-arrived_keeps : (b : Bool) (e f : Receiving) (m : ℕ) → Holds e f m → IsBelow e.receiver m →
-    Holds e (if b then e else f) m
-arrived_keeps true e f m new was = record { kept = was; capacity = refl }
-arrived_keeps false e f m new was = new
-
 module _ (sound : SoundEndStays) (grows : AcknowledgedGrows) (limits : LimitGrows) where
   receiver_keeps : (n : ℕ) (p : Pair) (u : receiving.Event) → IsHonest p (AtReceiver u) → Agree p →
       Holds p.receiver (receiving.after_event n p.receiver u) p.sender.sender.sent
   receiver_keeps n p (Arrived pos xs last d) honest is =
       let s = p.receiver.receiver in
-      arrived_keeps (is_empty xs last) p.receiver (after_arrival n p.receiver pos xs last d) p.sender.sender.sent
-      (record {
+      cond_both (is_empty xs last) p.receiver (after_arrival n p.receiver pos xs last d)
+      (λ t. Holds p.receiver t p.sender.sender.sent) (λ _. record { kept = is.kept; capacity = refl })
+      (λ _. record {
         kept = below_after n s pos p.sender.sender.sent xs last is.kept honest;
         capacity = capacity_after n s pos xs last;
-      }) is.kept
+      })
   receiver_keeps n p Answered honest is = record { kept = is.kept; capacity = refl }
   receiver_keeps n p Announced honest is = record { kept = is.kept; capacity = refl }
   receiver_keeps n p Acknowledged honest is = record { kept = is.kept; capacity = refl }

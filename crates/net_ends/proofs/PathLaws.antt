@@ -1,8 +1,8 @@
 -- Why what is read of a receiving end is what was written to a sending one.
 use Rattle.std.proofs.Common.{◌≡◌, ℕ, ◌+◌, ◌-◌, ◌<◌, ◌≤◌, inl, inr, refl, sym, ap, ◌∙◌, subst, true, false, arith}
 use Rattle.std.proofs.Common.{rules, List, [], ◌∷◌, ◌++◌, append_assoc, length-take}
-use Rattle.std.specs.Prelude.{Bool, IsTrue, IsFalse, min, take, drop, length, All, if◌then◌else◌}
-use Rattle.std.proofs.lemmas.Bool.{cases_lt}
+use Rattle.std.specs.Prelude.{Bool, IsTrue, IsFalse, min, take, drop, length, All}
+use Rattle.std.proofs.lemmas.Bool.{cases_lt, cond_both}
 use Rattle.std.proofs.lemmas.Bool.Decides.{nat_tests}
 use Rattle.std.proofs.lemmas.List.{take_min}
 use Rattle.std.proofs.lemmas.List.Elements.{All-nil, All-cons, All-head, All-tail, All-append}
@@ -111,23 +111,18 @@ lent_in e vs pos xs last is low =
       end = all.2;
     }
 
-none_or_one : (b : Bool) (e : End) (vs : List Event) (pos : ℕ) (xs : List ℕ) (last : Bool) →
-    (b ≡ false → IsLentIn e.sender (commands e vs) pos xs last) →
-    All (ComesFrom e.sender (commands e vs)) (if b then [] else Arrives pos xs last ∷ [])
-none_or_one true e vs pos xs last is = All-nil (ComesFrom e.sender (commands e vs))
-none_or_one false e vs pos xs last is =
-    All-cons (ComesFrom e.sender (commands e vs)) (Arrives pos xs last) [] (is refl)
-    (All-nil (ComesFrom e.sender (commands e vs)))
-
 one_comes : (e : End) (vs : List Event) (u : receiving.Event) → IsUnforged e vs u →
     All (ComesFrom e.sender (commands e vs)) (receiving.commands_of u)
-one_comes e vs (Arrived pos xs last d) is = none_or_one (is_empty xs last) e vs pos xs last
-    (λ some. elim (cases_lt pos (after_events e is.before).sender.sender.first_unacknowledged) [
+one_comes e vs (Arrived pos xs last d) is =
+    let P = ComesFrom e.sender (commands e vs) in
+    cond_both (is_empty xs last) [] (Arrives pos xs last ∷ []) (All P) (λ _. All-nil P)
+    (λ some. All-cons P (Arrives pos xs last) []
+    (elim (cases_lt pos (after_events e is.before).sender.sender.first_unacknowledged) [
       | inl below ↦
           let none = none_below (after_events e is.before).sender pos is.to xs last is.segment below in
           absurd (search (rules, none, some))
       | inr low ↦ lent_in e vs pos xs last is low
-    ])
+    ]) (All-nil P))
 one_comes e vs Answered is = All-nil (ComesFrom e.sender (commands e vs))
 one_comes e vs Announced is = All-nil (ComesFrom e.sender (commands e vs))
 one_comes e vs Acknowledged is = All-nil (ComesFrom e.sender (commands e vs))
@@ -145,10 +140,6 @@ all_come e vs (u ∷ us) all =
 one_says : (a : ℕ) (c : SenderCommand) → SenderSaysAtMost a c → All (SenderSaysAtMost a) (c ∷ [])
 one_says a c is = All-cons (SenderSaysAtMost a) c [] is (All-nil (SenderSaysAtMost a))
 
-marks_says : (b : Bool) (a to : ℕ) → All (SenderSaysAtMost a) (if b then Marks to ∷ [] else [])
-marks_says true a to = one_says a (Marks to) tt
-marks_says false a to = All-nil (SenderSaysAtMost a)
-
 says_step : (a : ℕ) (e : End) (v : Event) → SaysAtMost a v → All (SenderSaysAtMost a) (commands_of e v)
 says_step a e (Opened seq ack window size reports now) is = All-nil (SenderSaysAtMost a)
 says_step a e (Forgot now) is = All-nil (SenderSaysAtMost a)
@@ -158,7 +149,8 @@ says_step a e (Wrote xs) is = one_says a _ tt
 says_step a e Shut is = one_says a _ tt
 says_step a e (Heard s r says seq ack window now) is = one_says a _ is
 says_step a e (Looked r now) is = All-nil (SenderSaysAtMost a)
-says_step a e (Sent r from to now) is = marks_says (may_send e from to) a to
+says_step a e (Sent r from to now) is = cond_both (may_send e from to) (Marks to ∷ []) [] (All (SenderSaysAtMost a))
+    (λ _. one_says a (Marks to) tt) (λ _. All-nil (SenderSaysAtMost a))
 says_step a e (Rested now) is = All-nil (SenderSaysAtMost a)
 says_step a e (Resumed r) is = All-nil (SenderSaysAtMost a)
 

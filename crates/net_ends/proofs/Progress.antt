@@ -8,6 +8,7 @@ use Rattle.net_receiver.specs.SenderState.{with_written, end_of}
 use Rattle.net_receiver.specs.FiniteSender.{closed_sender, finite_room, FiniteSenderState, first_number, numbers_end}
 use Rattle.net_receiver.specs.FiniteSender.{acknowledged_below, accepts, IsSoundSent, Marks, sender_after_commands}
 use Rattle.std.proofs.lemmas.List.Elements.{All-head, All-tail}
+use Rattle.std.proofs.lemmas.Bool.{leb-true, eqb-true}
 use Rattle.std.proofs.lemmas.Bool.Decides.{nat_tests}
 use Rattle.net_ends.specs.Ends.{End, Event, Opened, Forgot, Opening, Wrote, Shut, Heard, Looked, Sent, Rested, Resumed}
 use Rattle.net_ends.specs.Ends.{after_event, after_events, rest, may_send, is_news, news, IsNoWrite, Enabled}
@@ -41,9 +42,6 @@ heard_step true s n ok is =
     (grind (arith, nat_tests, falls, both.0, both.1, high), sound_ack s n is both.0 both.1)
 heard_step false s n ok is = (omega arith, is)
 
-mark_says : (s : FiniteSenderState) (to : ℕ) → nat_le to (numbers_end s) ≡ true → to ≤ numbers_end s
-mark_says s to is = grind (arith, nat_tests, is)
-
 mark_step : (b : Bool) (s : FiniteSenderState) (to : ℕ) → (b ≡ true → to ≤ numbers_end s) → IsSoundSent s →
     let t = if b then record {
       sender = s.sender;
@@ -67,7 +65,7 @@ mark_step false s to ok is = (omega arith, is)
 
 sent_step : (b : Bool) (s : FiniteSenderState) (to : ℕ) → IsSoundSent s →
     let t = sender_after_commands s (if b then Marks to ∷ [] else []) in (left t + 0 ≤ left s) × IsSoundSent t
-sent_step true s to is = mark_step (nat_le to (numbers_end s)) s to (mark_says s to) is
+sent_step true s to is = mark_step (nat_le to (numbers_end s)) s to (leb-true to (numbers_end s)) is
 sent_step false s to is = (omega arith, is)
 
 step : (e : End) (v : Event) → IsSoundSent e.sender → IsNoWrite v →
@@ -120,9 +118,6 @@ wrote_step true s xs ok is =
     }
 wrote_step false s xs ok is = is
 
-open_says : (s : FiniteSenderState) → nat_eq s.closed 0 ≡ true → s.closed ≡ 0
-open_says s is = grind (arith, nat_tests, is)
-
 shut_step : (s : FiniteSenderState) → IsSoundSent s → IsSoundSent (closed_sender s)
 shut_step s is = record {
   closed = omega arith;
@@ -139,7 +134,7 @@ sound_step e (Enabled on) is = is
 sound_step e (Opening now) is = is
 sound_step e (Wrote xs) is =
     wrote_step (nat_eq e.sender.closed 0) e.sender (take (min (length xs) (finite_room e.sender)) xs)
-    (open_says e.sender) is
+    (eqb-true e.sender.closed 0) is
 sound_step e Shut is = shut_step e.sender is
 sound_step e (Heard s r says seq ack window now) is = (step e (Heard s r says seq ack window now) is tt).1
 sound_step e (Looked r now) is = (step e (Looked r now) is tt).1

@@ -169,13 +169,9 @@ module _ (sound : SoundEndStays) (grows : AcknowledgedGrows) (limits : LimitGrow
         sound = record { end = is.end; room = omega (arith, was, room); reach = omega (arith, far, most) };
       }
 
-  arrived : (b : Bool) (n : ℕ) (e : Receiving) (pos : ℕ) (xs : List ℕ) (last : Bool) (d : Option (ℕ × ℕ)) →
-      IsSoundReceiving e → Follows e (if b then e else after_arrival n e pos xs last d)
-  arrived true n e pos xs last d is = same e is
-  arrived false n e pos xs last d is = executed n e (Arrives pos xs last) _ _ _ is
-
   follows : (n : ℕ) (e : Receiving) (v : Event) → IsSoundReceiving e → Follows e (after_event n e v)
-  follows n e (Arrived pos xs last d) is = arrived (is_empty xs last) n e pos xs last d is
+  follows n e (Arrived pos xs last d) is = cond_both (is_empty xs last) e (after_arrival n e pos xs last d) (Follows e)
+      (λ _. same e is) (λ _. executed n e (Arrives pos xs last) _ _ _ is)
   follows n e Answered is = record {
     edge = omega arith;
     number = omega arith;

@@ -4,7 +4,8 @@ use Rattle.std.proofs.Common.{true, false, arith, rules, List, [], ◌∷◌, �
 use Rattle.std.specs.Prelude.{Bool, min, max, ◌⊎◌, length, if◌then◌else◌, ◌&&◌, not, IsTrue, IsFalse}
 use Rattle.std.specs.Prelude.{nat_lt, nat_le, nat_eq, is_ok, Option}
 use Rattle.std.specs.Int.{from_bool}
-use Rattle.std.proofs.lemmas.Bool.{cases_lt, both_ways, cond_both}
+use Rattle.std.proofs.lemmas.Bool.{cases_lt, both_ways, cond_both, cond-true, cond-false, eqb-true, ltb-false}
+use Rattle.std.proofs.lemmas.Bool.{le-leb, lt-ltb}
 use Rattle.std.proofs.lemmas.Bool.Decides.{nat_tests}
 use Rattle.std.proofs.lemmas.List.Elements.{All-nil}
 use Rattle.std.proofs.lemmas.Nat.{pow_pos, mul-le}
@@ -43,28 +44,13 @@ by : {A : Type 0} (b : Bool) → (b ≡ true → A) → (b ≡ false → A) → 
 by true on_it off_it = on_it refl
 by false on_it off_it = off_it refl
 
-equal_says : (a b : ℕ) → nat_eq a b ≡ true → a ≡ b
-equal_says a b is = grind (arith, nat_tests, is)
-
 differ_says : (a b : ℕ) → nat_eq a b ≡ false → a ≤ b → a < b
 differ_says a b is low = grind (arith, nat_tests, is, low)
 
-far_says : (a b : ℕ) → nat_lt a b ≡ false → b ≤ a
-far_says a b is = grind (arith, nat_tests, is)
-
 -- ---- a segment with the first missing number
-number_done : (b : Bool) (e next : ℕ) → b ≡ true → (if b then e + 1 else next) ≡ e + 1
-number_done true e next is = refl
-number_done false e next is = absurd (search (rules, is))
-
-number_open : (b : Bool) (e next : ℕ) → b ≡ false → (if b then e + 1 else next) ≡ next
-number_open true e next is = absurd (search (rules, is))
-number_open false e next is = refl
-
 number_most : (next e : ℕ) → next ≤ (if nat_eq next e then e + 1 else next)
-number_most next e = by (nat_eq next e)
-    (λ is. let same = equal_says next e is in let done = number_done (nat_eq next e) e next is in omega (arith, same, done))
-    (λ is. let shut_not = number_open (nat_eq next e) e next is in omega (arith, shut_not))
+number_most next e = cond_both (nat_eq next e) (e + 1) next (λ n. next ≤ n)
+    (λ is. let same = eqb-true next e is in omega (arith, same)) (λ _. omega arith)
 
 room_by : (b : Bool) (limit a k : ℕ) → (b ≡ false → 2 ^ 64 ≤ limit) → k ≡ a →
     k < (if b then max limit a else 2 ^ 64 - 1) → k < limit
@@ -73,21 +59,13 @@ room_by false limit a k far same room = let most = far refl in omega (arith, mos
 
 order_says : (pos next e limit : ℕ) (done : Bool) → pos ≤ next → next ≤ e → e ≤ limit → e < no_end → done ≡ false →
     (nat_le pos next && nat_le next e && nat_le e limit && nat_lt e no_end && not done) ≡ true
-order_says pos next e limit true a b c d is = absurd (search (rules, is))
-order_says pos next e limit false a b c d is = grind (arith, nat_tests, a, b, c, d)
+order_says pos next e limit done a b c d is = rw is (grind (arith, nat_tests, a, b, c, d))
 
 -- the bytes are taken
 after_by : (b ok : Bool) (s : FiniteState) (r : ReceiverState) (end other k : ℕ) → b ≡ false → k < next_position r →
     k < acknowledged (if b then s else record { receiver = r; end = if ok then end else other })
-after_by true ok s r end other k is new = absurd (search (rules, is))
-after_by false ok s r end other k is new =
-    let most = number_most (next_position r) (if ok then end else other) in omega (arith, most, new)
-
-met_by : (b : Bool) (n : ℕ) (s : FiniteState) (pos : ℕ) (xs : List ℕ) (last : Bool) (k : ℕ) → b ≡ false →
-    k < acknowledged (usual_after n s pos xs last) →
-    k < acknowledged (usual_after n (if b then queue_alone s else s) pos xs last)
-met_by true n s pos xs last k is new = absurd (search (rules, is))
-met_by false n s pos xs last k is new = new
+after_by b ok s r end other k is new =
+    let most = number_most (next_position r) (if ok then end else other) in rw is (omega (arith, most, new))
 
 module _ (grows : AcknowledgedGrows) (segment : SegmentOfStream) (in_order : EndInOrder) (reaches : InOrderReaches) where
   byte_comes : (n : ℕ) (s : FiniteState) (pos : ℕ) (xs : List ℕ) (last : Bool) (k : ℕ) →
@@ -120,11 +98,12 @@ module _ (grows : AcknowledgedGrows) (segment : SegmentOfStream) (in_order : End
       (λ on_it.
       let all = in_order n s pos xs is on_it in
       let t = finite_after n s pos xs true in
-      let number = number_done (is_complete t) t.end (next_position t.receiver) all.2 in
+      let number = cond-true (is_complete t) (t.end + 1) (next_position t.receiver) all.2 in
       let end = all.1 in
       omega (arith, number, end, to))
       (λ off_it. elim (cases_lt (limit_of s.receiver) e) [
-        | inl beyond ↦ met_by (true && ends_in_order s pos e) n s pos xs true k off_it
+        | inl beyond ↦ subst (λ m. k < acknowledged (usual_after n m pos xs true))
+            (sym (cond-false (true && ends_in_order s pos e) (queue_alone s) s off_it))
             (byte_comes n s pos xs true k ((segment n f x s pos xs true of match).0 (omega (arith, within, fits))) is at
             (omega (arith, shut_not, at)) room from (omega (arith, beyond, room)) (omega (arith, within, fits)))
         | inr in_it ↦ absurd (both_ways (ends_in_order s pos e) off_it
@@ -145,17 +124,17 @@ module _ (grows : AcknowledgedGrows) (segment : SegmentOfStream) (in_order : End
         let same : k ≡ acknowledged s = omega (arith, low, at) in
         by (is_complete s)
         (λ done.
-        let number = number_done (is_complete s) s.end (next_position s.receiver) done in
-        let there = equal_says (next_position s.receiver) s.end done in
+        let number = cond-true (is_complete s) (s.end + 1) (next_position s.receiver) done in
+        let there = eqb-true (next_position s.receiver) s.end done in
         let known = is.number in
         let end = of.end (grind (arith, nat_tests, known, there)) in
         let one = at_most_1 last in
         absurd (omega (arith, same, number, end, one, to, within)))
         (λ more.
-        let number = number_open (is_complete s) s.end (next_position s.receiver) more in
+        let number = cond-false (is_complete s) (s.end + 1) (next_position s.receiver) more in
         missing_comes last n f x s pos xs k fits is of match within more (omega (arith, same, number))
         (room_by (nat_lt (limit_of s.receiver) (2 ^ 64)) (limit_of s.receiver) (acknowledged s) k
-        (far_says (limit_of s.receiver) (2 ^ 64)) same room)
+        (ltb-false (limit_of s.receiver) (2 ^ 64)) same room)
         from to)
   ]
 
@@ -229,11 +208,6 @@ hears_same e g a most low same peer = let ack : g.peer.ack ≡ e.peer.ack = ap (
   window = omega (arith, same, ack, low);
 }
 
-hears_if : (b : Bool) (e g h : End) (a : ℕ) → (b ≡ true → Hears e g a) → (b ≡ false → Hears e h a) →
-    Hears e (if b then g else h) a
-hears_if true e g h a on_it off_it = on_it refl
-hears_if false e g h a on_it off_it = off_it refl
-
 peer_low : (b c : Bool) (w : PeerWindow) (seq ack window low : ℕ) → w.ack ≤ low → low ≤ ack →
     (if b then (if c then window_from seq ack window else w) else w).ack ≤ ack
 peer_low true true w seq ack window low is more = omega arith
@@ -242,9 +216,7 @@ peer_low false c w seq ack window low is more = omega (arith, is, more)
 
 peer_new : (b c : Bool) (w : PeerWindow) (seq ack window : ℕ) → b ≡ true → c ≡ true →
     (if b then (if c then window_from seq ack window else w) else w).edge ≡ (window_from seq ack window).edge
-peer_new true true w seq ack window on new = refl
-peer_new true false w seq ack window on new = absurd (search (rules, new))
-peer_new false c w seq ack window on new = absurd (search (rules, on))
+peer_new b c w seq ack window on new = rw (on, new) refl
 
 accept_all : (s : FiniteSenderState) (n : ℕ) → first_number s ≤ n → n ≤ s.sent → accepts s n ≡ true
 accept_all s n low high = grind (arith, nat_tests, low, high)
@@ -288,15 +260,16 @@ sender_hears p (Wrote xs) a honest all most is =
 sender_hears p Shut a honest all most is = hears_same p.sender _ a most is refl refl
 sender_hears p (Heard s r says seq ack window now) a honest all most is =
     let e = p.sender in
-    hears_if (accepts e.sender ack) e (sending.heard e s r says seq ack window now) (record e { recovery = r }) a
+    cond_both (accepts e.sender ack) (sending.heard e s r says seq ack window now) (record e { recovery = r })
+    (λ g. Hears e g a)
     (λ on. heard_hears e s r says seq ack window now a on (was_said a p.told ack window all honest) is)
     (λ off. hears_same e (record e { recovery = r }) a most is refl refl)
 sender_hears p (Looked r now) a honest all most is =
-    hears_if (has_expired p.sender.timer now) p.sender _ p.sender a
+    cond_both (has_expired p.sender.timer now) _ p.sender (λ g. Hears p.sender g a)
     (λ on. hears_same p.sender _ a most is refl refl) (λ off. hears_same p.sender p.sender a most is refl refl)
 sender_hears p (Sent r from to now) a honest all most is =
     let e = p.sender in
-    hears_if (may_send e from to) e _ e a
+    cond_both (may_send e from to) _ e (λ g. Hears e g a)
     (λ on. hears_same e _ a most is (marked_first (nat_le to (sending.end e)) e.sender to) refl)
     (λ off. hears_same e e a most is refl refl)
 sender_hears p (Rested now) a honest all most is = hears_same p.sender _ a most is refl refl
@@ -396,25 +369,17 @@ not_empty xs true pos k from to = by (nat_eq (length xs) 0) (λ on_it. search (r
 not_empty xs false pos k from to =
     let some : 0 < length xs = omega (arith, from, to) in
     by (nat_eq (length xs) 0)
-    (λ on_it. let none = equal_says (length xs) 0 on_it in absurd (omega (arith, some, none))) (λ off_it. search (rules, off_it))
-
-arrived_by : (b : Bool) (e g : Receiving) (k : ℕ) → b ≡ false → k < acknowledged g.receiver →
-    k < acknowledged (if b then e else g).receiver
-arrived_by true e g k is new = absurd (search (rules, is))
-arrived_by false e g k is new = new
+    (λ on_it. let none = eqb-true (length xs) 0 on_it in absurd (omega (arith, some, none)))
+    (λ off_it. search (rules, off_it))
 
 -- what is heard above a number has all up to it acknowledged
-first_by : (b : Bool) (g h : End) (k : ℕ) → (b ≡ true → k < first g) → (b ≡ false → k < first h) →
-    k < first (if b then g else h)
-first_by true g h k on_it off_it = on_it refl
-first_by false g h k on_it off_it = off_it refl
-
 heard_rises : (p : Pair) (s : Positions) (r : LossRecovery) (says : Bool) (seq ack window : ℕ) (now : ℤ) (k : ℕ) →
     ack ≤ p.sender.sender.sent → k < ack →
     k < first (sending.after_event p.sender (Heard s r says seq ack window now))
 heard_rises p s r says seq ack window now k fits above =
     let e = p.sender in
-    first_by (accepts e.sender ack) (sending.heard e s r says seq ack window now) (record e { recovery = r }) k
+    cond_both (accepts e.sender ack) (sending.heard e s r says seq ack window now) (record e { recovery = r })
+    (λ g. k < first g)
     (λ on. let number = (numbers_if (accepts e.sender ack) e.sender ack on).0 in omega (arith, number, above))
     (λ off. let more = accept_none e.sender ack fits off in omega (arith, more, above))
 
@@ -510,8 +475,8 @@ module _ (sound : SoundEndStays) (grows : AcknowledgedGrows) (limits : LimitGrow
       k < has_come (after_step n p (AtReceiver (Arrived pos xs last d)))
   first_comes n f x p pos xs last d k fits is of low room from to =
       let far = is.agree.sound.room in
-      arrived_by (is_empty xs last) p.receiver (after_arrival n p.receiver pos xs last d) k
-      (not_empty xs last pos k from to)
+      subst (λ g. k < acknowledged g.receiver) (sym (cond-false (is_empty xs last) p.receiver
+      (after_arrival n p.receiver pos xs last d) (not_empty xs last pos k from to)))
       (segment_comes grows segment in_order reaches n f x p.receiver.receiver pos xs last k fits is.agree.sound.end
       is.stream of.0 of.1 low (omega (arith, room, far)) from to)
 
@@ -570,11 +535,6 @@ module _ (sound : SoundEndStays) (grows : AcknowledgedGrows) (limits : LimitGrow
   arrives n f x p us is of rounds = rounds_rise n f x p us is.fits (reached n f x p is) of rounds
 
   -- ---- the window
-  knows_by : (b : Bool) (g h : End) (edge unit : ℕ) → b ≡ true → edge < g.peer.edge + unit →
-      edge < max (if b then g else h).peer.edge (first (if b then g else h)) + unit
-  knows_by true g h edge unit on is = omega (arith, is)
-  knows_by false g h edge unit on is = absurd (search (rules, on))
-
   newer : (w : PeerWindow) (seq ack : ℕ) → (w.ack < ack) ⊎ ((w.ack ≤ ack) × (w.seq ≤ seq)) →
       replaces w seq ack ≡ true
   newer w seq ack (inl new) = grind (arith, nat_tests, new)
@@ -603,8 +563,9 @@ module _ (sound : SoundEndStays) (grows : AcknowledgedGrows) (limits : LimitGrow
       let room = is.agree.sound.room in
       let most = free_fits p.receiver.receiver is.agree.sound.end in
       let some = pow_pos (shift_count p.receiver.scale) in
-      knows_by (accepts e.sender t.ack) (sending.heard e s r says seq t.ack t.window now) (record e { recovery = r })
-      p.receiver.edge (2 ^ shift_count p.receiver.scale) on
+      subst (λ g. p.receiver.edge < max g.peer.edge (first g) + 2 ^ shift_count p.receiver.scale)
+      (sym (cond-true (accepts e.sender t.ack) (sending.heard e s r says seq t.ack t.window now)
+      (record e { recovery = r }) on))
       (omega (arith, edge, short, room, most, some))
 
   pub latest_knows : (n f : ℕ) (x : List ℕ) (p : Pair) (t : Told) (older : List Told) (s : Positions)
@@ -619,31 +580,18 @@ asked : (probes due : Bool) (edge low end : ℕ) → probes ≡ true → due ≡
     (nat_lt low (low + 1)
     && nat_le (low + 1) (if probes && (nat_le edge low && nat_lt low end) then low + 1 else min edge end)
     && nat_le low low && due) ≡ true
-asked false due edge low end on hurry some = absurd (search (rules, on))
-asked true false edge low end on hurry some = absurd (search (rules, hurry))
-asked true true edge low end on hurry some = elim (cases_lt low edge) [
+asked probes due edge low end on hurry some = rw (on, hurry) (elim (cases_lt low edge) [
   | inl in_it ↦ grind (arith, nat_tests, in_it, some)
   | inr shut ↦ grind (arith, nat_tests, shut, some)
-]
-
-asks_by : (b : Bool) (g h : End) → b ≡ true → asks g ≡ true → asks (if b then g else h) ≡ true
-asks_by true g h on is = is
-asks_by false g h on is = absurd (search (rules, on))
+])
 
 shut_says : (probes : Bool) (edge low end : ℕ) → probes ≡ true → edge ≤ low → low < end →
     (probes && (nat_le edge low && nat_lt low end)) ≡ true
-shut_says true edge low end on shut some = grind (arith, nat_tests, shut, some)
-shut_says false edge low end on shut some = absurd (search (rules, on))
+shut_says probes edge low end on shut some = rw on (grind (arith, nat_tests, shut, some))
 
 -- the timer asks for a segment, so nothing is held back
 hurries_then : (b : Bool) (e : End) (from to : ℕ) → b ≡ true → is_due (record e { probes = b }) from to ≡ true
-hurries_then true e from to on = refl
-hurries_then false e from to on = absurd (search (rules, on))
-
-looked_by : (b : Bool) (g h : End) (from to : ℕ) → b ≡ true → may_send g from to ≡ true →
-    may_send (if b then g else h) from to ≡ true
-looked_by true g h from to on may = may
-looked_by false g h from to on may = absurd (search (rules, on))
+hurries_then b e from to on = rw on refl
 
 pub asks_then : (e : End) (r : LossRecovery) (now : ℤ) → first e < sending.end e →
     IsTrue (has_ended e.timer now) →
@@ -655,24 +603,21 @@ asks_then e r now some is =
       timer = after_expiry e.bounds now e.timer;
       probes = has_ended e.timer now;
       overdue = not (has_ended e.timer now) && not e.recovery.is_blind && not (is_shut e);
-    } in (
-      looked_by (has_expired e.timer now) g e (first e) (first e + 1) (ends_late e.timer now is)
+    } in
+    let left = sym (cond-true (has_expired e.timer now) g e (ends_late e.timer now is)) in (
+      subst (λ h. may_send h (first e) (first e + 1) ≡ true) left
           (asked (has_ended e.timer now) (is_due g (first e) (first e + 1)) e.peer.edge (first e) (sending.end e) is
           (hurries_then (has_ended e.timer now) g (first e) (first e + 1) is) some),
-      λ shut. asks_by (has_expired e.timer now) g e (ends_late e.timer now is)
+      λ shut. subst (λ h. asks h ≡ true) left
           (shut_says (has_ended e.timer now) e.peer.edge (first e) (sending.end e) is shut some),
     )
 
 -- ---- a window opens
-test_true : (a b : ℕ) → a ≤ b → nat_le a b ≡ true
-test_true a b is = grind (arith, nat_tests, is)
-
 opens_by : (b : Bool) (edge scale next far : ℕ) → b ≡ true → 0 < field_for scale (far - next) →
     next < max edge (announced next scale (field_for scale ((if b then far else min edge far) - next)))
-opens_by true edge scale next far on some =
+opens_by b edge scale next far on some =
     let part = mul-le 1 1 (field_for scale (far - next)) (2 ^ scale) (omega (arith, some)) (pow_pos scale) in
-    omega (arith, part)
-opens_by false edge scale next far on some = absurd (search (rules, on))
+    rw on (omega (arith, part))
 
 opens_at : (capacity scale edge next mss : ℕ) → IsScaleFor capacity scale → 0 < capacity → mss ≤ 65535 →
     edge ≤ next →
@@ -683,17 +628,9 @@ opens_at capacity scale edge next mss is some few at =
     let free : (next + capacity) - next ≡ capacity = omega arith in
     let unit = pow_pos scale in
     opens_by (nat_le (worth capacity mss) (gain edge scale next (next + capacity))) edge scale next (next + capacity)
-    (test_true (worth capacity mss) (gain edge scale next (next + capacity))
+    (le-leb (worth capacity mss) (gain edge scale next (next + capacity))
     (reopens capacity scale edge next mss is some (omega (arith, at, unit)) few))
     (subst (λ k. 0 < field_for scale k) (sym free) (scale_opens capacity scale is some))
-
-far_by : (b : Bool) (limit number : ℕ) → b ≡ true → number ≤ limit →
-    (if b then max limit number else 2 ^ 64 - 1) ≡ limit
-far_by true limit number on low = omega (arith, low)
-far_by false limit number on low = absurd (search (rules, on))
-
-test_lt : (a b : ℕ) → a < b → nat_lt a b ≡ true
-test_lt a b is = grind (arith, nat_tests, is)
 
 pub opens_then : (r : Receiving) → IsScaleFor r.receiver.receiver.capacity r.scale → 0 < r.receiver.receiver.capacity →
     r.size ≤ 65535 → IsFalse (is_complete r.receiver) → length r.receiver.receiver.queue ≡ 0 →
@@ -703,11 +640,11 @@ opens_then r is some few more none fits = elim (cases_lt (acknowledged r.receive
   | inr at ↦
       let capacity = r.receiver.receiver.capacity in
       let next = acknowledged r.receiver in
-      let number = number_open (is_complete r.receiver) r.receiver.end (next_position r.receiver.receiver) more in
+      let number = cond-false (is_complete r.receiver) (r.receiver.end + 1) (next_position r.receiver.receiver) more in
       let limit : limit_of r.receiver.receiver ≡ next + capacity = omega (arith, number, none) in
       let far : free_end r.receiver ≡ next + capacity =
-      far_by (nat_lt (limit_of r.receiver.receiver) (2 ^ 64)) (limit_of r.receiver.receiver) next
-      (test_lt (limit_of r.receiver.receiver) (2 ^ 64) fits) (omega (arith, limit)) ∙ limit in
+      cond-true (nat_lt (limit_of r.receiver.receiver) (2 ^ 64)) (max (limit_of r.receiver.receiver) next) (2 ^ 64 - 1)
+      (lt-ltb (limit_of r.receiver.receiver) (2 ^ 64) fits) ∙ omega (arith, limit) in
       let most = is.most in
       let scale : shift_count r.scale ≡ r.scale = omega (arith, most) in
       subst (λ k. next < max r.edge (announced next k (field_for k ((if nat_le (worth capacity r.size) (gain r.edge k next

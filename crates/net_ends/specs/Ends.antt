@@ -9,7 +9,7 @@
 --     is_shut e, open_to e, limit e      whether a probe may be sent; the end of what the window has room for, and of
 --         what may be sent
 --     asks e      whether the next segment is a probe
---     hurries e, delays e      whether the timer asks for a segment; whether Nagle's rule has small ones wait
+--     hurries e      whether the timer asks for a segment
 --     is_enough e from to, is_worth e from to      whether a range is all that is left or much; whether it is worth a
 --         segment
 --     found e limit window lost others, due_of e r      what the recovery sends next, with the holes that it looks at
@@ -32,7 +32,7 @@ use Rattle.std.specs.declared.ops.Range.{Range}
 use Rattle.net_assembler.specs.Positions.{Positions, contains, with_range, nothing}
 use Rattle.net_tcp.specs.LossRecovery.{begun as begun_recovery, forgotten, new_recovery, Recovery as LossRecovery}
 use Rattle.net_ends.specs.Rules.{Known, queued_of, renewed_by, window_shut, asks_window, room_to, most_to, in_hurry}
-use Rattle.net_ends.specs.Rules.{nagle_waits, enough}
+use Rattle.net_ends.specs.Rules.{enough}
 use Rattle.net_ends.specs.Rules.{worth_sending, due, HolesOf, next_of, due_part, ProbedOf, probe_part, is_probing}
 use Rattle.net_tcp.specs.Estimate.{Estimate}
 use Rattle.net_tcp.specs.Retransmission.{after_acknowledged, with_sample, after_expiry, after_sending, started}
@@ -233,10 +233,6 @@ limit e = most_to (known e)
 -- the timer asks for a segment: a timeout has passed, or no answer has come in time, and nothing was sent since then
 abbrev pub hurries : End → Bool
 hurries e = in_hurry (known e)
-
--- by Nagle's rule less than a whole segment waits while something is in flight, unless the stream is closed
-abbrev pub delays : End → Bool
-delays e = nagle_waits (known e)
 
 -- a range is all that is left, or half of the greatest window
 abbrev pub is_enough : End → ℕ → ℕ → Bool
