@@ -18,8 +18,8 @@ use Rattle.net_tcp.specs.declared.retransmission_timer.Expiry.{Expiry}
 use Rattle.net_tcp.specs.declared.retransmission_timer.Expiry.TheVariants as timer
 use Rattle.net_ends.specs.Ends.{End, first, end, is_acceptable, new_of, reports_of, begins_of, kept, is_overdue}
 use Rattle.net_ends.specs.Ends.{has_timed_out, timed_out, all_lost, after_event, Heard, Looked, Sent, Rested, asks}
-use Rattle.net_ends.specs.Ends.{hurries, AreHoles, open_to, found, due_of, range_of, IsProbed, probe_of, is_probe}
-use Rattle.net_ends.specs.Ends.{is_worth, may_send}
+use Rattle.net_ends.specs.Ends.{hurries, range_of, is_worth, may_send, known}
+use Rattle.net_ends.specs.Rules.{HolesOf, room_to, next_of, due_part, ProbedOf, probe_part, is_probing}
 use Rattle.net_ends.specs.declared.sending_end.Acknowledged.{Acknowledged}
 use Rattle.net_ends.specs.declared.sending_end.Acknowledged.TheVariants.{Refused, Old}
 use Rattle.net_ends.specs.declared.sending_end.Expired.{Expired}
@@ -104,14 +104,14 @@ pub record Chooses (e : End) (window : ℕ) (now : ℤ) (said : Option Outgoing)
   pub late : IsTrue e.probes → IsFalse (is_active e.recovery (first e)) → first e ≡ e.sender.sent → first e < end e →
       IsTrue (is_some said)
   -- which range is sent where no answer is overdue, by the holes in what is reported
-  pub next : (lost others : Option (ℕ × ℕ)) → IsFalse (asks e) → IsFalse e.overdue →
-      AreHoles e (open_to e) lost others →
-      range_of said ≡ due_of e (found e (open_to e) window lost others)
+  pub next : (lost others : Option (ℕ × ℕ)) → let k = known e in IsFalse (asks e) → IsFalse e.overdue →
+      HolesOf k (room_to k) lost others →
+      range_of said ≡ due_part k (next_of k (room_to k) window lost others)
   -- which range is sent where an answer is overdue: the same, or else a probe for one
-  pub answer : (lost others : Option (ℕ × ℕ)) (highest : ℕ) (hole : Option (ℕ × ℕ)) → IsFalse (asks e) →
-      IsTrue e.overdue → AreHoles e (open_to e) lost others → IsProbed e (open_to e) highest hole →
-      range_of said ≡
-      option_or (due_of e (found e (open_to e) window lost others)) (probe_of e (open_to e) highest hole)
+  pub answer : (lost others : Option (ℕ × ℕ)) (highest : ℕ) (hole : Option (ℕ × ℕ)) → let k = known e in
+      IsFalse (asks e) → IsTrue e.overdue → HolesOf k (room_to k) lost others → ProbedOf k (room_to k) highest hole →
+      range_of said
+      ≡ option_or (due_part k (next_of k (room_to k) window lost others)) (probe_part k (room_to k) highest hole)
   -- whether some of it was sent before
   pub again : IfSome said (λ r. r.is_again ≡ nat_lt r.pos e.sender.sent)
   -- what is left if nothing is sent
@@ -119,9 +119,9 @@ pub record Chooses (e : End) (window : ℕ) (now : ℤ) (said : Option Outgoing)
   -- what is left if a range is sent, with the recovery that lasts then
   pub sends : IfSome said (λ r. left ≡ after_event e (Sent left.recovery r.pos r.end now))
   -- which recovery lasts then, by the holes in what is reported
-  pub recovery : (lost others : Option (ℕ × ℕ)) → AreHoles e (open_to e) lost others →
+  pub recovery : (lost others : Option (ℕ × ℕ)) → let k = known e in HolesOf k (room_to k) lost others →
       IfSome said (λ r. left.recovery ≡ after_segment (numbers_of e.sender) r.pos r.end (asks e)
-      (is_probe e window lost others) e.recovery)
+      (is_probing k window lost others) e.recovery)
   -- and whatever the holes are: that after a probe for an answer only if one is overdue
   pub noted : IfSome said (λ r. (probe : Bool) × (IsTrue probe → IsTrue e.overdue)
       × (left.recovery ≡ after_segment (numbers_of e.sender) r.pos r.end (asks e) probe e.recovery))

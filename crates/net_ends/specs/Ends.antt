@@ -6,16 +6,10 @@
 --     timer_after, peer_after, greatest_after, heard      what an acknowledgement leaves
 --     kept s ack sent      what counts as reported then
 --     known e      what the rules of numbers know of it (Rules)
---     is_shut e, open_to e, limit e      whether a probe may be sent; the end of what the window has room for, and of
---         what may be sent
+--     is_shut e, limit e      whether a probe may be sent; the end of what may be sent
 --     asks e      whether the next segment is a probe
 --     hurries e      whether the timer asks for a segment
---     is_enough e from to, is_worth e from to      whether a range is all that is left or much; whether it is worth a
---         segment
---     found e limit window lost others, due_of e r      what the recovery sends next, with the holes that it looks at
---         (AreHoles); a range, unless it is held back
---     probe_of e limit highest hole      what a probe for an answer sends, with what it looks at (IsProbed)
---     is_probe e window lost others      whether the next segment is such a probe
+--     is_worth e from to      whether a range is worth a segment
 --     may_send e from to      whether a range may be sent
 --     is_pure segment      whether a segment has neither a byte nor a FIN
 --     Event, after_event, after_events      what happens to an end, and what that leaves
@@ -31,9 +25,8 @@ use Rattle.std.specs.FinSet as set
 use Rattle.std.specs.declared.ops.Range.{Range}
 use Rattle.net_assembler.specs.Positions.{Positions, contains, with_range, nothing}
 use Rattle.net_tcp.specs.LossRecovery.{begun as begun_recovery, forgotten, new_recovery, Recovery as LossRecovery}
-use Rattle.net_ends.specs.Rules.{Known, queued_of, renewed_by, window_shut, asks_window, room_to, most_to, in_hurry}
-use Rattle.net_ends.specs.Rules.{enough}
-use Rattle.net_ends.specs.Rules.{worth_sending, due, HolesOf, next_of, due_part, ProbedOf, probe_part, is_probing}
+use Rattle.net_ends.specs.Rules.{Known, queued_of, renewed_by, window_shut, asks_window, most_to, in_hurry}
+use Rattle.net_ends.specs.Rules.{worth_sending, due}
 use Rattle.net_tcp.specs.Estimate.{Estimate}
 use Rattle.net_tcp.specs.Retransmission.{after_acknowledged, with_sample, after_expiry, after_sending, started}
 use Rattle.net_tcp.specs.Retransmission.{after_report, has_expired, has_ended, new_timer, stopped}
@@ -222,10 +215,6 @@ is_shut e = window_shut (known e)
 abbrev pub asks : End → Bool
 asks e = asks_window (known e)
 
--- the end of what the peer's window has room for
-abbrev pub open_to : End → ℕ
-open_to e = room_to (known e)
-
 -- one number of a shut window, if the timer has ended; else what the peer's window has room for
 abbrev pub limit : End → ℕ
 limit e = most_to (known e)
@@ -234,10 +223,6 @@ limit e = most_to (known e)
 abbrev pub hurries : End → Bool
 hurries e = in_hurry (known e)
 
--- a range is all that is left, or half of the greatest window
-abbrev pub is_enough : End → ℕ → ℕ → Bool
-is_enough e from to = enough (known e) from to
-
 -- it is worth a segment: a whole one, or enough, unless that has to wait
 abbrev pub is_worth : End → ℕ → ℕ → Bool
 is_worth e from to = worth_sending (known e) from to
@@ -245,28 +230,6 @@ is_worth e from to = worth_sending (known e) from to
 -- nothing is held back but what was never sent and isn't worth a segment
 abbrev pub is_due : End → ℕ → ℕ → Bool
 is_due e from to = due (known e) from to
-
--- the holes in what was reported that the recovery looks at
-abbrev pub AreHoles : End → ℕ → Option (ℕ × ℕ) → Option (ℕ × ℕ) → Type 0
-AreHoles e limit lost others = HolesOf (known e) limit lost others
-
--- what the recovery sends next, and that unless it is held back
-abbrev pub found : End → ℕ → ℕ → Option (ℕ × ℕ) → Option (ℕ × ℕ) → Option (Range ℕ)
-found e limit window lost others = next_of (known e) limit window lost others
-
-abbrev pub due_of : End → Option (Range ℕ) → Option (Range ℕ)
-due_of e r = due_part (known e) r
-
--- what a probe for an answer sends, by the end of what was reported and the first hole in it
-abbrev pub IsProbed : End → ℕ → ℕ → Option (ℕ × ℕ) → Type 0
-IsProbed e limit highest hole = ProbedOf (known e) limit highest hole
-
-abbrev pub probe_of : End → ℕ → ℕ → Option (ℕ × ℕ) → Option (Range ℕ)
-probe_of e limit highest hole = probe_part (known e) limit highest hole
-
--- the next segment is such a probe: no answer came, the window isn't asked for, and nothing else may be sent
-abbrev pub is_probe : End → ℕ → Option (ℕ × ℕ) → Option (ℕ × ℕ) → Bool
-is_probe e window lost others = is_probing (known e) window lost others
 
 abbrev pub range_of : Option Outgoing → Option (Range ℕ)
 range_of None = None

@@ -3,11 +3,10 @@
 
 ghost use Rattle.std.specs.Prelude.{◌≡◌, ◌-◌, ◌+◌, ◌<◌, ◌≤◌, ◌&&◌, ◌==◌, ℕ, Option, Some, IsTrue, IsFalse, min, IfSome};
 ghost use Rattle.std.specs.Prelude.{is_some, is_none, ◌||◌, not, false, length, List, max, true};
-ghost use Rattle.net_assembler.specs.Positions.{contains, with_range, nothing};
+ghost use Rattle.net_assembler.specs.Positions.{with_range, nothing};
 ghost use Rattle.net_tcp.specs.LossRecovery.{is_active, next_probe, as_range, new_recovery, no_loss, recovery_of};
 ghost use Rattle.net_receiver.specs.FiniteSender.{sender_after_command, Acknowledges, FiniteSenderState};
-ghost use Rattle.net_ends.specs.Ends.{first, end, greatest_of, is_shut, asks, told, limit, round_trip, synchronized};
-ghost use Rattle.net_ends.specs.Ends.{sampled, timed_out, is_overdue, kept, is_due, is_worth, is_enough, hurries};
+ghost use Rattle.net_ends.specs.Ends.{greatest_of, told, round_trip, synchronized, sampled, kept};
 ghost use Rattle.net_ends.specs.Acknowledgements.{reported_by, numbers_of, unsent_at, Recovers};
 ghost use Rattle.net_receiver.specs.Scoreboards.{IsEnd, IsHole, IsSoundBoard};
 ghost use Rattle.net_tcp.specs.Sack.{is_permitted};
