@@ -1,5 +1,5 @@
 -- Why nothing is sent beyond what the peer allowed, and the timer runs.
-use Rattle.std.proofs.Common.{◌≡◌, ℕ, ℤ, ◌-◌, ◌<◌, ◌≤◌, refl, sym, ap, ◌∙◌, ◌+◌, inl, inr, arith, rules, List, [], ◌∷◌}
+use Rattle.std.proofs.Common.{◌≡◌, ℕ, ℤ, ◌-◌, ◌<◌, ◌≤◌, refl, sym, ap, ◌∙◌, ◌+◌, arith, rules, List, [], ◌∷◌}
 use Rattle.std.proofs.Common.{◌++◌, true, false, subst}
 use Rattle.std.specs.Prelude.{◌⊎◌, All, Bool, IsTrue, min, ◌&&◌, nat_le, nat_lt, is_some, if◌then◌else◌}
 use Rattle.net_tcp.specs.Retransmission.{running, lasting, timed_after, after_sending, Timer as RetransmissionTimer}
@@ -27,8 +27,7 @@ appended s (c ∷ cs) ds = appended (sender_after_command s c) cs ds
 
 sent_refines : (b : Bool) (e d : End) (to : ℕ) → d.sender ≡ sender_after_command e.sender (Marks to) →
     (if b then d else e).sender ≡ sender_after_commands e.sender (if b then Marks to ∷ [] else [])
-sent_refines true e d to marked = marked
-sent_refines false e d to marked = refl
+sent_refines b e d to marked = search (rules, marked)
 
 pub step_refines : (e : End) (v : Event) → (after_event e v).sender ≡ sender_after_commands e.sender (commands_of e v)
 step_refines e (Opened seq ack window size reports now) = search rules
@@ -120,9 +119,7 @@ pub record IsKept (u : Run) : Type 0 where
 allowed_by : (asks due : Bool) (from to first edge end most : ℕ) → edge ≤ most →
     (nat_lt from to && nat_le to (if asks then first + 1 else min edge end) && nat_le first from && due) ≡ true →
     (to ≤ most) ⊎ ((from ≡ first) × (to ≡ first + 1))
-allowed_by true due from to first edge end most told may =
-    inr (grind (arith, nat_tests, may), grind (arith, nat_tests, may))
-allowed_by false due from to first edge end most told may = inl (grind (arith, nat_tests, may, told))
+allowed_by asks due from to first edge end most told may = grind (arith, nat_tests, may, told)
 
 sent_allowed : (u : Run) (from to : ℕ) → u.end.peer.edge ≤ u.edge → may_send u.end from to ≡ true →
     IsAllowed (record { from = from; to = to; first = first u.end; edge = u.edge })

@@ -1,6 +1,6 @@
 -- What the timer's end leaves of an end e: f is what it is once the timer has started again, and `left` is what is
 -- left.
-use Rattle.std.proofs.Common.{◌≡◌, ℤ, true, false, refl, sym, ap, subst, ◌∙◌, arith}
+use Rattle.std.proofs.Common.{◌≡◌, ℤ, true, false, rules, refl, sym, ap, subst, ◌∙◌, arith}
 use Rattle.std.specs.Prelude.{Bool, ◌↔◌, ◌&&◌, ◌||◌, int_le, int_lt, not, Option, Some, None}
 use Rattle.std.specs.Prelude.{if◌then◌else◌}
 use Rattle.std.proofs.lemmas.Grind.{common_steps}
@@ -24,9 +24,7 @@ restarted e now = record e { timer = after_expiry e.bounds now e.timer }
 -- ---- the probe is due: the timer has expired (a), and the timeout hasn't passed (b)
 probe_is : (a b : Bool) → (if a then (if b then Some Timeout else Some Probe) else None) ≡ Some Probe →
     (a ≡ true) × (b ≡ false)
-probe_is true true is = cc
-probe_is true false is = (refl, refl)
-probe_is false b is = cc
+probe_is a b is = search (rules, is)
 
 silent_no : (a b blind : Bool) (result : Expired) → a ≡ true → b ≡ false → (result ≡ No) ↔ (blind ≡ true) →
     (result ≡ No) ↔ ((a && (b || not blind)) ≡ false)
@@ -65,9 +63,7 @@ silence_is e f left now result is same silent =
 -- ---- the timeout has passed
 timed_out_is : (a b : Bool) → (if a then (if b then Some Timeout else Some Probe) else None) ≡ Some Timeout →
     (a ≡ true) × (b ≡ true)
-timed_out_is true true is = (refl, refl)
-timed_out_is true false is = cc
-timed_out_is false b is = cc
+timed_out_is a b is = search (rules, is)
 
 ended_no : (a b blind shut : Bool) (result : Expired) → a ≡ true → b ≡ true →
     result ≡ (if shut then expired.Probe else Lost) → (result ≡ No) ↔ ((a && (b || not blind)) ≡ false)
@@ -120,9 +116,7 @@ looks_some Timeout e f left now result is same takes =
 
 -- ---- the timer hasn't ended
 none_is : (a b : Bool) → (if a then (if b then Some Timeout else Some Probe) else None) ≡ None → a ≡ false
-none_is false b is = refl
-none_is true true is = cc
-none_is true false is = cc
+none_is a b is = search (rules, is)
 
 due : (b : Bool) (p end now : ℤ) → (b ≡ true → int_lt p end ≡ true) → int_le end now ≡ true →
     int_le (if b then p else end) now ≡ true

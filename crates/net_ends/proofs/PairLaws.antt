@@ -1,6 +1,6 @@
 -- Why each of two ends takes what the other acknowledges, whatever the path between them does.
 use Rattle.std.proofs.Common.{◌≡◌, ℕ, ℤ, ◌+◌, ◌-◌, ◌<◌, ◌≤◌, inl, inr, refl, sym, ap, ◌∙◌, subst, true, false, arith}
-use Rattle.std.proofs.Common.{List, [], ◌∷◌, ◌++◌, length-take, zero, suc}
+use Rattle.std.proofs.Common.{rules, List, [], ◌∷◌, ◌++◌, length-take, zero, suc}
 use Rattle.std.specs.Prelude.{Bool, min, max, ◌⊎◌, length, if◌then◌else◌, ◌&&◌, nat_lt, nat_le, nat_eq, is_ok, is_some}
 use Rattle.std.specs.Int.{from_bool}
 use Rattle.std.proofs.lemmas.Bool.{cases_lt, both_ways, and_parts, cond_both}
@@ -9,7 +9,7 @@ use Rattle.std.proofs.lemmas.List.{length-drop}
 use Rattle.net_tcp.specs.Windows.{IsTaken, IsHeard, shift_count, window_from, replaces}
 use Rattle.net_tcp.specs.declared.peer_window.PeerWindow.{PeerWindow}
 use Rattle.net_receiver.specs.ReceiverState.{ReceiverState, limit_of, next_position, receiver_after_command, Segment}
-use Rattle.net_receiver.specs.ReceiverState.{Verdict, state_after, KeepsNone, Refuses, Keeps, verdict}
+use Rattle.net_receiver.specs.ReceiverState.{Verdict, state_after, verdict}
 use Rattle.net_receiver.specs.ReceiverState.{receiver_after_read, fresh_receiver}
 use Rattle.net_receiver.specs.OneStream.{LimitGrows}
 use Rattle.net_receiver.specs.Schedule.{piece}
@@ -59,15 +59,10 @@ end_if : (b ok l : Bool) (met : FiniteState) (r : ReceiverState) (e m : ℕ) →
       end = if ok then (if l then e else met.end) else met.end;
     } in
     (t.end < m) ⊎ (t.end ≡ no_end)
-end_if true ok l met r e m new was = was
-end_if false true true met r e m new was = inl (new refl)
-end_if false true false met r e m new was = was
-end_if false false l met r e m new was = was
+end_if b ok l met r e m new was = search (rules, new, was)
 
 capacity_by : (v : ReceiverState) (x : Verdict) → (state_after v x).capacity ≡ v.capacity
-capacity_by v KeepsNone = refl
-capacity_by v Refuses = refl
-capacity_by v (Keeps part) = refl
+capacity_by v x = search rules
 
 -- a segment of which all numbers are below m
 below_after : (n : ℕ) (s : FiniteState) (pos m : ℕ) (xs : List ℕ) (last : Bool) → IsBelow s m →
@@ -247,12 +242,10 @@ heard_near e s r says seq ack window now edge capacity on is fits few =
 -- what was sent doesn't become less
 heard_sent : (b c : Bool) (s : FiniteSenderState) (e f : End) (n : ℕ) → f.sender ≡ (if c then acknowledged_below s n else s) →
     e.sender ≡ s → (if b then f else e).sender.sent ≡ s.sent
-heard_sent true true s e f n of same = ap (λ t. t.sent) of
-heard_sent true false s e f n of same = ap (λ t. t.sent) of
-heard_sent false c s e f n of same = ap (λ t. t.sent) same
+heard_sent b c s e f n of same = search (rules, of, same)
 
 -- ---- a segment is sent
-marked : (b : Bool) (s : FiniteSenderState) (to : ℕ) →
+pub marked : (b : Bool) (s : FiniteSenderState) (to : ℕ) →
     let t = if b then record {
       sender = s.sender;
       closed = s.closed;
@@ -260,14 +253,12 @@ marked : (b : Bool) (s : FiniteSenderState) (to : ℕ) →
       sent = max s.sent to;
     } else s in
     (first_number t ≡ first_number s) × (s.sent ≤ t.sent) × (t.sent ≤ max s.sent to)
-marked true s to = (refl, omega arith, omega arith)
-marked false s to = (refl, omega arith, omega arith)
+marked b s to = (search rules, grind arith, grind arith)
 
 to_by : (asks due : Bool) (from to first edge end greatest : ℕ) → edge ≤ first + greatest →
     (nat_lt from to && nat_le to (if asks then first + 1 else min edge end) && nat_le first from && due) ≡ true →
     to ≤ first + max 1 greatest
-to_by true due from to first edge end greatest near may = grind (arith, nat_tests, may)
-to_by false due from to first edge end greatest near may = grind (arith, nat_tests, may, near)
+to_by asks due from to first edge end greatest near may = grind (arith, nat_tests, may, near)
 
 sent_near : (b : Bool) (e f : End) (to edge capacity : ℕ) → f.sender ≡ sender_after_command e.sender (Marks to) →
     f.peer ≡ e.peer → f.greatest ≡ e.greatest → (b ≡ true → to ≤ first e + max 1 e.greatest) → IsNear e edge capacity →
@@ -298,8 +289,7 @@ pub wrote_first : (b : Bool) (s : FiniteSenderState) (xs : List ℕ) →
       finished = s.finished;
       sent = s.sent;
     }) ≡ first_number s
-wrote_first true s xs = refl
-wrote_first false s xs = refl
+wrote_first b s xs = search rules
 
 looked_near : (b : Bool) (e f : End) (edge capacity : ℕ) → f.sender ≡ e.sender → f.peer ≡ e.peer →
     f.greatest ≡ e.greatest → IsNear e edge capacity →

@@ -1,6 +1,6 @@
 -- Why an end announces no less than it did, and no more than there is room for.
 use Rattle.std.proofs.Common.{◌≡◌, ℕ, ◌+◌, ◌-◌, ◌*◌, ◌/◌, ◌^◌, ◌<◌, ◌≤◌, inl, inr, refl, sym, ap, ◌∙◌, subst}
-use Rattle.std.proofs.Common.{true, false, arith, rules, List, [], ◌∷◌, ◌++◌}
+use Rattle.std.proofs.Common.{arith, rules, List, [], ◌∷◌, ◌++◌}
 use Rattle.std.specs.Prelude.{Bool, IsTrue, min, max, if◌then◌else◌, ◌⊎◌, All, length, take, Option}
 use Rattle.std.proofs.lemmas.Bool.{cases_lt, cond_both}
 use Rattle.net_receiver.proofs.FiniteReceivers.{meets}
@@ -76,12 +76,10 @@ field_rest shift x = elim (cases_lt (x / 2 ^ shift) 65536) [
 ]
 
 pub end_within : (b : Bool) (edge free : ℕ) → (if b then free else min edge free) ≤ free
-end_within true edge free = omega arith
-end_within false edge free = omega arith
+end_within b edge free = grind arith
 
 end_after : (b : Bool) (edge free : ℕ) → edge ≤ free → edge ≤ (if b then free else min edge free)
-end_after true edge free in_it = in_it
-end_after false edge free in_it = omega (arith, in_it)
+end_after b edge free in_it = grind (arith, in_it)
 
 pub within : (e : Receiving) → IsSoundEnd e.receiver → promise e ≤ free_end e.receiver
 within e is =

@@ -37,7 +37,7 @@ use Rattle.net_ends.proofs.Expiries.{ends_late}
 use Rattle.net_ends.proofs.ReceivingLaws.{kept, free_fits, number_stays}
 use Rattle.net_ends.proofs.Progress.{accept_says}
 use Rattle.net_ends.proofs.Small.{at_most_1}
-use Rattle.net_ends.proofs.PairLaws.{Agree, goes, begins, come_sent, numbers_if, wrote_first}
+use Rattle.net_ends.proofs.PairLaws.{Agree, goes, begins, come_sent, numbers_if, wrote_first, marked}
 
 -- ---- a test, either way
 by : {A : Type 0} (b : Bool) → (b ≡ true → A) → (b ≡ false → A) → A
@@ -54,8 +54,7 @@ number_most next e = cond_both (nat_eq next e) (e + 1) next (λ n. next ≤ n)
 
 room_by : (b : Bool) (limit a k : ℕ) → (b ≡ false → 2 ^ 64 ≤ limit) → k ≡ a →
     k < (if b then max limit a else 2 ^ 64 - 1) → k < limit
-room_by true limit a k far same room = omega (arith, same, room)
-room_by false limit a k far same room = let most = far refl in omega (arith, most, room)
+room_by b limit a k far same room = grind (arith, far, same, room)
 
 order_says : (pos next e limit : ℕ) (done : Bool) → pos ≤ next → next ≤ e → e ≤ limit → e < no_end → done ≡ false →
     (nat_le pos next && nat_le next e && nat_le e limit && nat_lt e no_end && not done) ≡ true
@@ -210,9 +209,7 @@ hears_same e g a most low same peer = let ack : g.peer.ack ≡ e.peer.ack = ap (
 
 peer_low : (b c : Bool) (w : PeerWindow) (seq ack window low : ℕ) → w.ack ≤ low → low ≤ ack →
     (if b then (if c then window_from seq ack window else w) else w).ack ≤ ack
-peer_low true true w seq ack window low is more = omega arith
-peer_low true false w seq ack window low is more = omega (arith, is, more)
-peer_low false c w seq ack window low is more = omega (arith, is, more)
+peer_low b c w seq ack window low is more = grind (arith, is, more)
 
 peer_new : (b c : Bool) (w : PeerWindow) (seq ack window : ℕ) → b ≡ true → c ≡ true →
     (if b then (if c then window_from seq ack window else w) else w).edge ≡ (window_from seq ack window).edge
@@ -226,16 +223,6 @@ accept_none s n high is = elim (cases_lt n (first_number s)) [
   | inl below ↦ below
   | inr low ↦ absurd (both_ways (accepts s n) is (accept_all s n low high))
 ]
-
-marked_first : (b : Bool) (s : FiniteSenderState) (to : ℕ) →
-    first_number (if b then record {
-      sender = s.sender;
-      closed = s.closed;
-      finished = s.finished;
-      sent = max s.sent to;
-    } else s) ≡ first_number s
-marked_first true s to = refl
-marked_first false s to = refl
 
 heard_hears : (e : End) (s : Positions) (r : LossRecovery) (says : Bool) (seq ack window : ℕ) (now : ℤ) (a : ℕ) →
     accepts e.sender ack ≡ true → ack ≤ a → e.peer.ack ≤ first e →
@@ -270,7 +257,7 @@ sender_hears p (Looked r now) a honest all most is =
 sender_hears p (Sent r from to now) a honest all most is =
     let e = p.sender in
     cond_both (may_send e from to) _ e (λ g. Hears e g a)
-    (λ on. hears_same e _ a most is (marked_first (nat_le to (sending.end e)) e.sender to) refl)
+    (λ on. hears_same e _ a most is (marked (nat_le to (sending.end e)) e.sender to).0 refl)
     (λ off. hears_same e e a most is refl refl)
 sender_hears p (Rested now) a honest all most is = hears_same p.sender _ a most is refl refl
 sender_hears p (Resumed r) a honest all most is = hears_same p.sender _ a most is refl refl
@@ -315,8 +302,7 @@ said_knows p g is same edge scale k =
 
 arrived_same : (b : Bool) (e g : Receiving) → g.edge ≡ e.edge → g.scale ≡ e.scale →
     ((if b then e else g).edge ≡ e.edge) × ((if b then e else g).scale ≡ e.scale)
-arrived_same true e g edge scale = (refl, refl)
-arrived_same false e g edge scale = (edge, scale)
+arrived_same b e g edge scale = search (rules, edge, scale)
 
 receiver_knows : (n : ℕ) (p : Pair) (u : receiving.Event) → IsSoundReceiving p.receiver →
     has_come p ≤ acknowledged (receiving.after_event n p.receiver u).receiver → Knows p →
@@ -365,12 +351,7 @@ carried_append n f x p (v ∷ vs) ws all =
 
 not_empty : (xs : List ℕ) (last : Bool) (pos k : ℕ) → pos ≤ k → k < pos + length xs + from_bool last →
     is_empty xs last ≡ false
-not_empty xs true pos k from to = by (nat_eq (length xs) 0) (λ on_it. search (rules, on_it)) (λ off_it. search (rules, off_it))
-not_empty xs false pos k from to =
-    let some : 0 < length xs = omega (arith, from, to) in
-    by (nat_eq (length xs) 0)
-    (λ on_it. let none = eqb-true (length xs) 0 on_it in absurd (omega (arith, some, none)))
-    (λ off_it. search (rules, off_it))
+not_empty xs last pos k from to = grind (arith, nat_tests, from, to)
 
 -- what is heard above a number has all up to it acknowledged
 heard_rises : (p : Pair) (s : Positions) (r : LossRecovery) (says : Bool) (seq ack window : ℕ) (now : ℤ) (k : ℕ) →
@@ -580,10 +561,7 @@ asked : (probes due : Bool) (edge low end : ℕ) → probes ≡ true → due ≡
     (nat_lt low (low + 1)
     && nat_le (low + 1) (if probes && (nat_le edge low && nat_lt low end) then low + 1 else min edge end)
     && nat_le low low && due) ≡ true
-asked probes due edge low end on hurry some = rw (on, hurry) (elim (cases_lt low edge) [
-  | inl in_it ↦ grind (arith, nat_tests, in_it, some)
-  | inr shut ↦ grind (arith, nat_tests, shut, some)
-])
+asked probes due edge low end on hurry some = grind (arith, nat_tests, on, hurry, some)
 
 shut_says : (probes : Bool) (edge low end : ℕ) → probes ≡ true → edge ≤ low → low < end →
     (probes && (nat_le edge low && nat_lt low end)) ≡ true

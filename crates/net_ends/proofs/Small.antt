@@ -10,26 +10,20 @@ use Rattle.net_ends.specs.Ends.{Resumed, after_event, first, limit, may_send, is
 use Rattle.net_ends.specs.Ends.{is_small, small_sends, is_expiry, expiries}
 
 pub at_most_1 : (b : Bool) → from_bool b ≤ 1
-at_most_1 true = omega arith
-at_most_1 false = omega arith
+at_most_1 b = grind arith
 
 same_step : (b : Bool) (e f d : End) → hurries d ≡ hurries e → hurries f ≡ hurries e →
     0 + from_bool (hurries (if b then d else f)) ≤ from_bool (hurries e) + 0
-same_step true e f d same other = rw same (omega arith)
-same_step false e f d same other = rw other (omega arith)
+same_step b e f d same other = grind (arith, same, other)
 
 looked_step : (b : Bool) (e d : End) →
     0 + from_bool (hurries (if b then d else e)) ≤ from_bool (hurries e) + from_bool b
-looked_step true e d = let most = at_most_1 (hurries d) in omega (arith, most)
-looked_step false e d = omega arith
+looked_step b e d = grind (arith, at_most_1)
 
 sent_step : (may new small : Bool) (e d : End) → hurries d ≡ false →
     (may ≡ true → new ≡ true → small ≡ true → hurries e ≡ true) →
     from_bool (may && new && small) + from_bool (hurries (if may then d else e)) ≤ from_bool (hurries e) + 0
-sent_step true true true e d calm asked = rw (calm, asked refl refl refl) (omega arith)
-sent_step true true false e d calm asked = rw calm (omega arith)
-sent_step true false small e d calm asked = rw calm (omega arith)
-sent_step false new small e d calm asked = omega arith
+sent_step may new small e d calm asked = grind (arith, calm, asked)
 
 -- what may be sent and is small is sent for the timer
 asked_by : (a b c hurries worth : Bool) (from sent : ℕ) →

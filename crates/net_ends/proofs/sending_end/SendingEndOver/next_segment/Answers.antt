@@ -9,35 +9,29 @@ use Rattle.net_ends.specs.declared.sending_end.Outgoing.{Outgoing}
 use Rattle.net_ends.proofs.Senders.{marks}
 use Rattle.net_ends.proofs.sending_end.SendingEndOver.next_segment.Goals as goal
 
-chooses_of : (d e left f : End) (window : ℕ) (now : ℤ) (said : Option Outgoing) → d ≡ e → f ≡ left →
-    Chooses d window now said left → Chooses e window now said f
-chooses_of d e left f window now said view stays chooses =
-    subst (λ (x : End). Chooses x window now said f) view
-    (subst (λ (x : End). Chooses d window now said x) (sym stays) chooses)
+chooses_of : (d e : End) (left : Option Outgoing → End) (f : End) (window : ℕ) (now : ℤ) (said shown : Option Outgoing) →
+    said ≡ shown → d ≡ e → f ≡ left shown → Chooses d window now said (left said) → Chooses e window now shown f
+chooses_of d e left f window now said shown is view stays chooses =
+    subst (λ (x : End). Chooses x window now shown f) view
+    (subst (λ (x : End). Chooses d window now shown x) (sym stays)
+    (subst (λ (r : Option Outgoing). Chooses d window now r (left r)) is chooses))
 
 -- What the head says, of the sender's state.
 pub returns-in_default : goal.returns-in_default
 returns-in_default g c =
     let s = c.self.inside.sender in
     let is = ap (λ (e : End). queued_of e.sender) c.self.view_is ∙ sym c.queued-queued.ensures.value in
-    let chosen = subst (λ (r : Option Outgoing). Chooses
-    (end_of s c.self.inside.head c.self.inside.runs c.self.inside.first_timeout c.self.inside.bounds)
-    c.args.congestion_window c.args.now r
-    (end_of (marked s r) c.next_segment.new.self c.self.inside.runs c.self.inside.first_timeout c.self.inside.bounds))
-    c.in_default.is (c.next_segment.ensures.chooses s c.self.inside.first_timeout is) in
-    chooses_of _ c.args.self.now _ _ c.args.congestion_window c.args.now _ c.self.view_is refl chosen
+    chooses_of _ c.args.self.now (λ r. end_of (marked s r) c.next_segment.new.self c.self.inside.runs
+    c.self.inside.first_timeout c.self.inside.bounds) _ c.args.congestion_window c.args.now _ _ c.in_default.is
+    c.self.view_is refl (c.next_segment.ensures.chooses s c.self.inside.first_timeout is)
 
 pub returns : goal.returns
 returns g c =
     let s = c.self.inside.sender in
     let is = ap (λ (e : End). queued_of e.sender) c.self.view_is ∙ sym c.queued-queued.ensures.value in
-    let chosen = subst (λ (r : Option Outgoing). Chooses
-    (end_of s c.self.inside.head c.self.inside.runs c.self.inside.first_timeout c.self.inside.bounds)
-    c.args.congestion_window c.args.now r
-    (end_of (marked s r) c.next_segment.new.self c.self.inside.runs c.self.inside.first_timeout c.self.inside.bounds))
-    c.in-Some.is (c.next_segment.ensures.chooses s c.self.inside.first_timeout is) in
-    chooses_of _ c.args.self.now _ _ c.args.congestion_window c.args.now _ c.self.view_is
-    (ap (λ (x : FiniteSenderState). end_of x c.next_segment.new.self c.self.inside.runs c.self.inside.first_timeout
-    c.self.inside.bounds) (marks _ _ c.in-Some.it.end
-    c.mark_sent-is_written.result c.mark_sent-is_written.ensures.accepted c.mark_sent-is_written.ensures.mark
-    c.mark_sent-is_written.ensures.refused)) chosen
+    let left = λ (t : FiniteSenderState). end_of t c.next_segment.new.self c.self.inside.runs
+    c.self.inside.first_timeout c.self.inside.bounds in
+    chooses_of _ c.args.self.now (λ r. left (marked s r)) _ c.args.congestion_window c.args.now _ _ c.in-Some.is
+    c.self.view_is (ap left (marks _ _ c.in-Some.it.end c.mark_sent-is_written.result
+    c.mark_sent-is_written.ensures.accepted c.mark_sent-is_written.ensures.mark
+    c.mark_sent-is_written.ensures.refused)) (c.next_segment.ensures.chooses s c.self.inside.first_timeout is)
