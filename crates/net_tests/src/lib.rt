@@ -5,6 +5,11 @@
 //! only tests need. Calls that are drawn are of the erased text, in `rust/tests`.
 #![tactic(auto)]
 
+/// A table of rows, each up to a semicolon.
+macro_rules! rows {
+    ($($row:expr;)*) => { [$($row),*] };
+}
+
 #[cfg(test)]
 mod assertions;
 #[cfg(test)]

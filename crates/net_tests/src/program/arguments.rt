@@ -56,31 +56,13 @@ fn reads(alloc: Global, line: &[&[u8]], is_read: bool) -> bool {
 
 /// Command lines. Their words have letters other than those of English, capitals, spaces, bytes of more than one
 /// character, and no bytes; some come twice.
-static LINES: [&'static [&'static [u8]]; 5] = [
-    &[b"program", b"stream", b"8", b"4", b"1000", b"", b"x"],
-    &[
-        b"program",
-        b"Ring",
-        b" 8 ",
-        b"8",
-        b"8",
-        b"\xc3\xa9\xf0\x9f\xa6\x80",
-        b"\t",
-        b"--",
-        b"Ring",
-    ],
-    &[
-        b"program",
-        b"1",
-        b"2",
-        b"3",
-        b"4",
-        b"5",
-        b"a_word_of_more_than_twenty_bytes_which_says_nothing",
-    ],
-    &[b"program"],
-    &[],
-];
+static LINES: [&'static [&'static [u8]]; 5] = rows! {
+    &[b"program", b"stream", b"8", b"4", b"1000", b"", b"x"];
+    &[b"program", b"Ring", b" 8 ", b"8", b"8", b"\xc3\xa9\xf0\x9f\xa6\x80", b"\t", b"--", b"Ring"];
+    &[b"program", b"1", b"2", b"3", b"4", b"5", b"a_word_of_more_than_twenty_bytes_which_says_nothing"];
+    &[b"program"];
+    &[];
+};
 
 #[test]
 fn the_words_of_a_command_line_are_those_after_its_first(rt: HostRuntime) -> Result<(), Fail> {

@@ -15,51 +15,17 @@ type Script = (
 );
 
 /// Lines of each mode, shorter and longer ones.
-static SCRIPTS: [Script; 4] = [
-    (
-        &["ring 16"],
-        b"w 6162\nw -\nr 1\nw 636465666768696A6B6C6D6E6F70\nr 99\nr 9",
-        &[
-            b"took 2\n",
-            b"took 0\n",
-            b"read 61\n",
-            b"took 14\n",
-            b"read 62636465666768696a6b6c6d6e6f70\n",
-            b"read -\n",
-        ],
-    ),
-    (
-        &["asm 4", "asm 32"],
-        b"a 2 3\nt 0 1\np\nf\np",
-        &[
-            b"ok\n",
-            b"front 1\n",
-            b"[ (1) 3 ]\n",
-            b"front 0\n",
-            b"[ (1) 3 ]\n",
-        ],
-    ),
-    (
-        &["stream 8 4", "stream 8 32"],
-        b"s 2 6162\n?\ns 0 6364\n?\nr 9\nr 9\n--\ns 0 63646162\nr 4",
-        &[
-            b"kept 2 queued 0 sack 2-4\n",
-            b"next 0 queued 0 window 8 held 2-4\n",
-            b"kept 2 queued 4 sack -\n",
-            b"next 4 queued 4 window 4 held -\n",
-            b"read 63646162\n",
-            b"read -\n",
-            b"kept 4 queued 4 sack -\n",
-            b"read 63646162\n",
-            b"same\n",
-        ],
-    ),
-    (
-        &["stream 4 4 1000"],
-        b"s 1000 61\n--",
-        &[b"kept 1 queued 1 sack -\n", b"differs\n"],
-    ),
-];
+static SCRIPTS: [Script; 4] = rows! {
+    (&["ring 16"], b"w 6162\nw -\nr 1\nw 636465666768696A6B6C6D6E6F70\nr 99\nr 9", &[b"took 2\n", b"took 0\n",
+        b"read 61\n", b"took 14\n", b"read 62636465666768696a6b6c6d6e6f70\n", b"read -\n"]);
+    (&["asm 4", "asm 32"], b"a 2 3\nt 0 1\np\nf\np", &[b"ok\n", b"front 1\n", b"[ (1) 3 ]\n", b"front 0\n",
+        b"[ (1) 3 ]\n"]);
+    (&["stream 8 4", "stream 8 32"], b"s 2 6162\n?\ns 0 6364\n?\nr 9\nr 9\n--\ns 0 63646162\nr 4",
+        &[b"kept 2 queued 0 sack 2-4\n", b"next 0 queued 0 window 8 held 2-4\n", b"kept 2 queued 4 sack -\n",
+        b"next 4 queued 4 window 4 held -\n", b"read 63646162\n", b"read -\n", b"kept 4 queued 4 sack -\n",
+        b"read 63646162\n", b"same\n"]);
+    (&["stream 4 4 1000"], b"s 1000 61\n--", &[b"kept 1 queued 1 sack -\n", b"differs\n"]);
+};
 
 /// Returns the words of a command line.
 pub fn words_of(alloc: Global, line: &str) -> Result<Vec<String>, AllocError> {
@@ -155,79 +121,6 @@ fn most_bytes(
     let outcome = run(&memory, mode, &mut Source::new(input), &mut sink);
     let is_whole = outcome.is_ok() && sink.bytes.len() == length;
     Ok(is_whole.then_some(memory.most()))
-}
-
-/// Returns a line of `length` bytes, a command if it has bytes.
-fn line_of(alloc: Global, length: usize) -> Result<Vec<u8>, AllocError> {
-    let mut line = Vec::new(alloc);
-    line.push(b'w')?;
-    if length > 1 {
-        line.push(b' ')?;
-    }
-    line.resize(length, b'6')?;
-    line.push(b'\n')?;
-    Ok(line)
-}
-
-/// Returns lines that fill a ring of 65,536 bytes and read all of it, and what is written for them.
-fn long_reply(alloc: Global) -> Result<(Vec<u8>, Vec<u8>), AllocError> {
-    let mut input = Vec::new(alloc);
-    let mut output = Vec::new(alloc);
-    for _ in 0..64 {
-        input.extend_from_slice(&line_of(alloc, 2050)?)?;
-        output.extend_from_slice(b"took 1024\n")?;
-    }
-    input.extend_from_slice(b"r 65536\n")?;
-    output.extend_from_slice(b"read ")?;
-    let length = output.len().saturating_add(131072);
-    output.resize(length, b'6')?;
-    output.push(b'\n')?;
-    Ok((input, output))
-}
-
-/// Returns segments of 1,000 bytes each that fill a receiver of 64,000, and a read of all, `times`
-/// times: the lines of mode `stream`, and how many bytes are written.
-fn full_receivers(alloc: Global, times: usize) -> Result<(Vec<u8>, usize), AllocError> {
-    let mut input = Vec::new(alloc);
-    let digits = vec![in alloc; b'6'; 2_000]?;
-    for number in 0..times.saturating_mul(64) {
-        let start = format!(in alloc; "s {} ", number.saturating_mul(1_000))?;
-        input.extend_from_slice(start.as_bytes())?;
-        input.extend_from_slice(&digits)?;
-        input.push(b'\n')?;
-        if number % 64 == 63 {
-            input.extend_from_slice(b"r 64000\n")?;
-        }
-    }
-    let replies = 64 * b"kept 1000 queued 1000 sack -\n".len() + b"read \n".len() + 128_000;
-    Ok((input, times.saturating_mul(replies)))
-}
-
-/// A run has the storage, the bytes of one reply, its digits and itself, and twice the replies to the lines of a
-/// read, where a list of them grows: no more for more lines.
-#[test]
-fn a_run_needs_no_more_memory_for_more_lines(rt: HostRuntime) -> Result<(), Fail> {
-    let (lines, output) = long_reply(rt.alloc())?;
-    let mut input = Vec::new(rt.alloc());
-    for _ in 0..9 {
-        input.extend_from_slice(&lines)?;
-    }
-    let length = output.len().saturating_mul(9);
-    let most = most_bytes(rt.alloc(), "ring 65536", (&input, length))?;
-    let bound = 65_536 + 65_536 + 2 * 131_100 + 3 * 132_000;
-    assert_holds(
-        &rt,
-        most.is_some_and(|most| most <= bound),
-        ("ring 65536", 0),
-    );
-    let (input, length) = full_receivers(rt.alloc(), 9)?;
-    let most = most_bytes(rt.alloc(), "stream 64000 4", (&input, length))?;
-    assert_holds(
-        &rt,
-        most.is_some_and(|most| most <= bound),
-        ("stream 64000 4", 0),
-    );
-    Ok(())
 }
 
 /// The storage of a second schedule is asked for when it begins.

@@ -1,10 +1,10 @@
 //! Rows of assemblers of 1, 4 and 32 runs.
 ghost use Rattle.std.specs.Prelude.{◌≤◌};
 
-use crate::assertions::assert_holds;
+use crate::assertions::{Expected, assert_holds};
 use crate::worked::assembler_rows::{ROWS_0, ROWS_1, ROWS_2};
 use net_assembler::{Assembler, Turns};
-use std::fmt::{self, Write};
+use std::fmt::Write;
 
 /// A call with its answer, or what is then seen.
 #[derive(Clone, Copy, Drop)]
@@ -36,32 +36,10 @@ use Step::{Add, AddCounted, AddThenRemove, Contains, Fill, Fits, Remove, RunAt, 
 /// A name, how many runs there may be, and the steps on a new assembler.
 pub type Row = (&'static str, usize, &'static [Step]);
 
-/// A text that is compared piece by piece.
-#[derive(Drop)]
-struct Expected {
-    rest: &'static [u8],
-    is_same: bool,
-}
-
-impl fmt::Write for Expected {
-    fn write_str(&mut self, piece: &str) -> fmt::Result {
-        let bytes = piece.as_bytes();
-        if self.rest.starts_with(bytes) {
-            self.rest = &self.rest[bytes.len()..];
-        } else {
-            self.is_same = false;
-        }
-        Ok(())
-    }
-}
-
 /// Returns whether this is an assembler's text.
 fn has_text<const N: usize>(assembler: &Assembler<N>, text: &'static str) -> bool {
-    let mut expected = Expected {
-        rest: text.as_bytes(),
-        is_same: true,
-    };
-    write!(expected, "{assembler}").is_ok() && expected.is_same && expected.rest.is_empty()
+    let mut expected = Expected::of(text);
+    write!(expected, "{assembler}").is_ok() && expected.is_whole()
 }
 
 /// Returns whether these are the runs.

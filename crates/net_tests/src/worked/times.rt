@@ -1,65 +1,30 @@
 //! Rows of moments and of lengths of time.
-use crate::assertions::assert_holds;
+use crate::assertions::{Expected, assert_holds};
 use net_base::time::{Duration, Instant};
-use std::fmt::{self, Write};
-
-/// A text that is compared piece by piece.
-#[derive(Drop)]
-struct Expected {
-    rest: &'static [u8],
-    is_same: bool,
-}
-
-impl fmt::Write for Expected {
-    fn write_str(&mut self, piece: &str) -> fmt::Result {
-        let bytes = piece.as_bytes();
-        if self.rest.starts_with(bytes) {
-            self.rest = &self.rest[bytes.len()..];
-        } else {
-            self.is_same = false;
-        }
-        Ok(())
-    }
-}
+use std::fmt::Write;
 
 /// Returns whether this is a moment's text.
 fn moment_has_text(moment: Instant, text: &'static str) -> bool {
-    let mut expected = Expected {
-        rest: text.as_bytes(),
-        is_same: true,
-    };
-    write!(expected, "{moment}").is_ok() && expected.is_same && expected.rest.is_empty()
+    let mut expected = Expected::of(text);
+    write!(expected, "{moment}").is_ok() && expected.is_whole()
 }
 
 /// Returns whether this is a length's text.
 fn length_has_text(length: Duration, text: &'static str) -> bool {
-    let mut expected = Expected {
-        rest: text.as_bytes(),
-        is_same: true,
-    };
-    write!(expected, "{length}").is_ok() && expected.is_same && expected.rest.is_empty()
+    let mut expected = Expected::of(text);
+    write!(expected, "{length}").is_ok() && expected.is_whole()
 }
 
 /// A name, milliseconds, the text, and the parts: seconds, milliseconds and microseconds.
 type Moment = (&'static str, i64, &'static str, (i64, i64, i64));
 
-static MOMENTS: [Moment; 5] = [
-    ("milliseconds_alone", 74, "0.074s", (0, 74, 74_000)),
-    (
-        "seconds_and_milliseconds",
-        5_674,
-        "5.674s",
-        (5, 674, 674_000),
-    ),
-    ("seconds_alone", 5_000, "5.000s", (5, 0, 0)),
-    ("a_moment_before_the_origin", -5, "0.0-5s", (0, -5, -5_000)),
-    (
-        "a_second_before_the_origin",
-        -1_500,
-        "-1.-500s",
-        (-1, -500, -500_000),
-    ),
-];
+static MOMENTS: [Moment; 5] = rows! {
+    ("milliseconds_alone", 74, "0.074s", (0, 74, 74_000));
+    ("seconds_and_milliseconds", 5_674, "5.674s", (5, 674, 674_000));
+    ("seconds_alone", 5_000, "5.000s", (5, 0, 0));
+    ("a_moment_before_the_origin", -5, "0.0-5s", (0, -5, -5_000));
+    ("a_second_before_the_origin", -1_500, "-1.-500s", (-1, -500, -500_000));
+};
 
 /// Returns whether a moment of so many milliseconds has this text and these parts.
 fn is_moment(millis: i64, text: &'static str, parts: (i64, i64, i64)) -> bool {
