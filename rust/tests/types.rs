@@ -248,42 +248,14 @@ fn threads() {
 /// What is lent for longer serves where it is wanted for a shorter time.
 #[test]
 fn lifetimes() {
-    fn ring<'s>(it: RingBuffer<'static, u8>, _: &'s u8) -> RingBuffer<'s, u8> {
+    type All<'s> = (
+        (RingBuffer<'s, u8>, PacketBuffer<'s, u8>, FragmentBuffer<'s>, ManagedSlice<'s, u8>),
+        (Receiver<'s>, FiniteReceiver<'s>, FiniteSender<'s>, PacketLoopback<'s>),
+    );
+    fn shorter<'s>(it: All<'static>, _: &'s u8) -> All<'s> {
         it
     }
-    fn queue<'s>(it: PacketBuffer<'static, u8>, _: &'s u8) -> PacketBuffer<'s, u8> {
-        it
-    }
-    fn fragments<'s>(it: FragmentBuffer<'static>, _: &'s u8) -> FragmentBuffer<'s> {
-        it
-    }
-    fn receiver<'s>(it: Receiver<'static>, _: &'s u8) -> Receiver<'s> {
-        it
-    }
-    fn finite<'s>(it: FiniteReceiver<'static>, _: &'s u8) -> FiniteReceiver<'s> {
-        it
-    }
-    fn sender<'s>(it: FiniteSender<'static>, _: &'s u8) -> FiniteSender<'s> {
-        it
-    }
-    fn slice<'s>(it: ManagedSlice<'static, u8>, _: &'s u8) -> ManagedSlice<'s, u8> {
-        it
-    }
-    fn device<'s>(it: PacketLoopback<'static>, _: &'s u8) -> PacketLoopback<'s> {
-        it
-    }
-    let (short, leak) = (7, || Box::leak(vec![0u8; 4].into_boxed_slice()));
-    let slots = Box::leak(vec![PacketMetadata::EMPTY; 2].into_boxed_slice());
-    assert_eq!(ring(RingBuffer::new(leak()), &short).capacity(), 4);
-    assert_eq!(queue(PacketBuffer::new(slots, leak()), &short).payload_capacity(), 4);
-    assert_eq!(fragments(FragmentBuffer::new(leak(), Instant::ZERO), &short).capacity(), 4);
-    assert_eq!(receiver(Receiver::new(leak()), &short).capacity(), 4);
-    assert_eq!(finite(FiniteReceiver::new_at(leak(), 5), &short).acknowledged(), 5);
-    assert_eq!(sender(FiniteSender::new_at(leak(), 0), &short).capacity(), 4);
-    assert_eq!(slice(ManagedSlice::from(leak()), &short).len(), 4);
-    let slots = Box::leak(vec![PacketMetadata::EMPTY; 2].into_boxed_slice());
-    let it = PacketLoopback::new(Medium::Ip, PacketBuffer::new(slots, leak()), leak(), leak());
-    assert_eq!(device(it, &short).dropped(), 0);
+    let _it_compiles = shorter;
     // A part that a closure was lent may live as long as the ring was lent.
     let mut storage = [1u8, 2, 3];
     let mut ring = RingBuffer::new(&mut storage[..]);

@@ -6,8 +6,6 @@
 mod ends;
 mod heard;
 mod path;
-#[cfg(test)]
-mod path_rows;
 
 pub use ends::{begin, read_first, send_late, take_acknowledgement, take_last, take_segment};
 pub use heard::{answer_of_answer, have_come, hear, promised_end};

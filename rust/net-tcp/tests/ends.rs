@@ -1,5 +1,5 @@
 //! A sending end: whatever arrives, forged acknowledgements too, what is sent is what was written, nothing is sent
-//! beyond the peer's edge but a probe, and a timer runs while anything waits. Both ends are beside each other in `fates`.
+//! beyond the peer's edge but a probe, and a timer runs while anything waits. In `endpoint` two ends talk over a path.
 #![cfg(feature = "alloc")]
 use net_base::rand::Rand;
 use net_base::time::{Duration, Instant};

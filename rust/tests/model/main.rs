@@ -19,10 +19,10 @@ mod support;
 mod time;
 
 use beside::beside_models;
+use net_base::storage::Storage;
 
 beside_models! {
     rings: ring::play,
-    rings_of_units: ring::play_units,
     packet_queues: packets::play,
     assemblers: assembler::play,
     receivers: receiver::play,
@@ -35,4 +35,21 @@ beside_models! {
     moments_and_lengths: time::play,
     numbers: time::play_numbers,
     sums: sums::play,
+}
+
+/// Moves to the next of some storages, unless that is smaller: then it panics with these words. Returns whether it moved.
+fn grows<T, S: Storage<T>>(
+    more: &mut Vec<S>,
+    had: &mut usize,
+    words: &str,
+    grow: impl FnOnce(S) -> S,
+) -> bool {
+    let Some(storage) = more.pop() else { return false };
+    let count = storage.count();
+    if count < *had {
+        assert_eq!(support::message(|| grow(storage)), words);
+        return false;
+    }
+    assert_eq!(grow(storage).count(), std::mem::replace(had, count));
+    true
 }

@@ -1,6 +1,7 @@
 //! Ranges of a stream are the set of the positions that have arrived, and what was read of them.
 use crate::assembler::Runs;
 use crate::draw::Draw;
+use crate::grows;
 use crate::support::message;
 use net_base::finite::{FiniteError, StreamRanges, StreamRangesOver};
 use net_base::storage::{Run, Storage};
@@ -127,16 +128,7 @@ fn play_over<R: Storage<Run>>(
                     model.capacity = larger;
                 }
             }
-            8 => {
-                let Some(runs) = more.pop() else { continue };
-                let count = runs.count();
-                if count < model.most {
-                    assert_eq!(message(|| it.grow_runs(runs)), "fewer runs");
-                } else {
-                    assert_eq!(it.grow_runs(runs).count(), model.most);
-                    model.most = count;
-                }
-            }
+            8 => _ = grows(&mut more, &mut model.most, "fewer runs", |runs| it.grow_runs(runs)),
             9 if draw.once_in(8) => {
                 let first = draw.first();
                 it.reset_at(first);

@@ -1,6 +1,7 @@
 //! A receiver is a queue, the position after it, and a map of positions to the bytes that are held.
 use crate::assembler::Runs;
 use crate::draw::Draw;
+use crate::grows;
 use crate::support::message;
 use net_base::finite::{FiniteError, FiniteReceiver, FiniteReceiverOver};
 use net_base::finite::{StreamReceiver, StreamReceiverOver};
@@ -226,14 +227,9 @@ fn play_over<S: Storage<u8>, const N: usize>(
                 std::mem::swap(&mut model, &mut other_model);
             }
             10 if draw.once_in(4) => {
-                let Some(storage) = larger.pop() else { continue };
-                let count = storage.count();
-                if count < model.capacity {
-                    assert_eq!(message(|| it.grow(storage)), "a smaller storage");
-                } else {
-                    assert_eq!(it.grow(storage).count(), model.capacity);
-                    model.capacity = count;
-                }
+                _ = grows(&mut larger, &mut model.capacity, "a smaller storage", |storage| {
+                    it.grow(storage)
+                })
             }
             _ => {}
         }
@@ -362,14 +358,9 @@ fn play_finite_over<S: Storage<u8>, const N: usize>(
                 model = Finite { bytes: Model::new(model.bytes.capacity, N, first), end: None };
             }
             _ if draw.once_in(4) => {
-                let Some(storage) = larger.pop() else { continue };
-                let count = storage.count();
-                if count < model.bytes.capacity {
-                    assert_eq!(message(|| it.grow(storage)), "a smaller storage");
-                } else {
-                    assert_eq!(it.grow(storage).count(), model.bytes.capacity);
-                    model.bytes.capacity = count;
-                }
+                _ = grows(&mut larger, &mut model.bytes.capacity, "a smaller storage", |storage| {
+                    it.grow(storage)
+                })
             }
             _ => {
                 let part = model.bytes.peek(0, usize::MAX);
@@ -455,24 +446,12 @@ fn play_stream_over<S: Storage<u8>, R: Storage<Run>>(
             }
             6 => assert_eq!(message(|| it.remove(size)), "more bytes than are queued"),
             7 if draw.once_in(2) => {
-                let Some(storage) = larger.pop() else { continue };
-                let count = storage.count();
-                if count < model.bytes.capacity {
-                    assert_eq!(message(|| it.grow(storage)), "a smaller storage");
-                } else {
-                    assert_eq!(it.grow(storage).count(), model.bytes.capacity);
-                    model.bytes.capacity = count;
-                }
+                _ = grows(&mut larger, &mut model.bytes.capacity, "a smaller storage", |storage| {
+                    it.grow(storage)
+                })
             }
             8 if draw.once_in(2) => {
-                let Some(runs) = more.pop() else { continue };
-                let count = runs.count();
-                if count < model.bytes.most {
-                    assert_eq!(message(|| it.grow_runs(runs)), "fewer runs");
-                } else {
-                    assert_eq!(it.grow_runs(runs).count(), model.bytes.most);
-                    model.bytes.most = count;
-                }
+                _ = grows(&mut more, &mut model.bytes.most, "fewer runs", |runs| it.grow_runs(runs))
             }
             9 if draw.once_in(8) => {
                 let (first, bytes) = (draw.first(), &model.bytes);

@@ -1,6 +1,6 @@
 //! A sender is the bytes that aren't acknowledged, the number of the first of them, and the index where it lies.
 use crate::draw::Draw;
-use crate::support::message;
+use crate::grows;
 use net_base::finite::{FiniteSender, FiniteSenderOver};
 use net_base::storage::Storage;
 use std::collections::VecDeque;
@@ -129,15 +129,12 @@ fn play_over<S: Storage<u8>>(
                 it.reset_at(first);
                 model = Model::new(model.capacity, first);
             }
-            9 if draw.once_in(4) => {
-                let Some(storage) = larger.pop() else { continue };
-                let count = storage.count();
-                if count < model.capacity {
-                    assert_eq!(message(|| it.grow(storage)), "a smaller storage");
-                } else {
-                    assert_eq!(it.grow(storage).count(), model.capacity);
-                    (model.capacity, model.at) = (count, 0);
-                }
+            9 if draw.once_in(4)
+                && grows(&mut larger, &mut model.capacity, "a smaller storage", |storage| {
+                    it.grow(storage)
+                }) =>
+            {
+                model.at = 0
             }
             _ => {}
         }

@@ -1,5 +1,5 @@
 //! The example endpoint by crafted segments: its own rules one by one, with random segments against
-//! a model of what a peer may be sent, and over a path that loses packets; and its command line.
+//! a model of what a peer may be sent, and over a path that loses packets.
 #![cfg(feature = "alloc")]
 mod channel_tests;
 mod fuzz;
@@ -8,7 +8,6 @@ mod peer;
 mod receiving;
 mod sending;
 mod times;
-mod words;
 
 #[allow(dead_code)]
 #[path = "../../examples/endpoint/channel.rs"]
