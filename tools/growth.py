@@ -52,7 +52,7 @@ LEFT_OUT = {
     "it makes a value, takes one apart, or begins anew: a program does that":
         "new new_at empty empty_at over over_at into_storage into_storages clear reset_at forget",
     "it reads numbers of the head, or of what it is given": """
-        acknowledged acknowledgement_number answer capacity end expires_at first_number first_unread first_unreported fits
+        acknowledged answer capacity empty_segment_position end expires_at first_number first_unread first_unreported fits
         flight_size has_read_all held_count is_closed is_closed_and_acknowledged is_complete is_done
         is_due is_empty is_expired is_recovering len most_runs nagle_enabled next numbers numbers_end peek_front queued receiver
         round_trip run_count segment_size sent sent_numbers timeouts total_size window window_end""",

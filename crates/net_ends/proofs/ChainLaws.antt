@@ -11,7 +11,7 @@ use Rattle.net_tcp.specs.declared.answer_limit.AnswerLimit.{AnswerLimit}
 use Rattle.net_tcp.specs.declared.arriving.Segment.{Segment}
 use Rattle.net_ends.specs.Chains.{AreWithin, answered, Host, number, next, HostEvent, Sends, Receives, after_event}
 use Rattle.net_ends.specs.Chains.{after_events, Turn, after_turn, IsTurn, AreTurns, new_numbers}
-use Rattle.net_tcp.specs.Windows.{acknowledgement_number}
+use Rattle.net_tcp.specs.Windows.{empty_segment_position}
 use Rattle.net_receiver.specs.OneStream.{LimitGrows}
 use Rattle.net_receiver.specs.Finite.{SoundEndStays, AcknowledgedGrows}
 use Rattle.net_receiver.specs.FiniteSender.{accepts}
@@ -61,7 +61,7 @@ module _ (sound : SoundEndStays) (grows : AcknowledgedGrows) (limits : LimitGrow
       let fits = (accept_says e.sender (next near) of.accepted).1 in record {
         rises = before.rises;
         sound_then = before.sound_then;
-        reaches = subst (λ g. next near ≤ acknowledgement_number g.peer (first g) g.sender.sent)
+        reaches = subst (λ g. next near ≤ empty_segment_position g.peer (first g) g.sender.sent)
             (sym (cond-true (accepts e.sender (next near)) heard (record e { recovery = t.r }) of.accepted))
             (omega (arith, numbers, fits));
       }

@@ -13,7 +13,7 @@
 use Rattle.std.specs.Prelude.{ℕ, ℤ, ◌+◌, ◌-◌, ◌≤ℤ◌, ◌&&◌, Bool, List, [], ◌∷◌, IsTrue}
 use Rattle.std.specs.Int.{from_bool}
 use Rattle.net_assembler.specs.Positions.{Positions}
-use Rattle.net_tcp.specs.Windows.{IsBehind, acknowledgement_number}
+use Rattle.net_tcp.specs.Windows.{IsBehind, empty_segment_position}
 use Rattle.net_tcp.specs.AnswerLimit.{is_limited, allows, after_question}
 use Rattle.net_tcp.specs.declared.answer_limit.AnswerLimit.{AnswerLimit}
 use Rattle.net_tcp.specs.declared.arriving.Segment.{Segment}
@@ -30,7 +30,7 @@ pub record Host : Type 0 where
   pub receiver : Receiving
 
 abbrev pub number : Host → ℕ
-number h = acknowledgement_number h.sender.peer (first h.sender) h.sender.sender.sent
+number h = empty_segment_position h.sender.peer (first h.sender) h.sender.sender.sent
 
 abbrev pub next : Host → ℕ
 next h = acknowledged h.receiver.receiver

@@ -8,7 +8,7 @@
 --     IsAnswerTaken p seq      the receiving end takes what an acknowledgement with that number says
 use Rattle.std.specs.Prelude.{◌≡◌, ℕ, ℤ, ◌+◌, ◌-◌, ◌*◌, ◌^◌, ◌≤◌, ◌⊎◌, Bool, List, [], ◌∷◌, ◌++◌, length}
 use Rattle.std.specs.Int.{from_bool}
-use Rattle.net_tcp.specs.Windows.{IsTaken, IsHeard, acknowledgement_number, shift_count}
+use Rattle.net_tcp.specs.Windows.{IsTaken, IsHeard, empty_segment_position, shift_count}
 use Rattle.net_receiver.specs.Finite.{acknowledged}
 use Rattle.net_ends.specs.Ends as sending
 use Rattle.net_ends.specs.Ends.{End, first, Heard, Opened}
@@ -78,7 +78,7 @@ AreHonest most_runs p (v ∷ vs) = IsHonest p v × AreHonest most_runs (after_st
 
 -- ---- an acknowledgement of the sending end
 abbrev pub number : Pair → ℕ
-number p = acknowledgement_number p.sender.peer (first p.sender) p.sender.sender.sent
+number p = empty_segment_position p.sender.peer (first p.sender) p.sender.sender.sent
 
 -- the first number that is missing
 abbrev pub has_come : Pair → ℕ

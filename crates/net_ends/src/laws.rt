@@ -11,7 +11,7 @@ ghost use Rattle.net_ends.specs.Path.{LentIsWritten, EndsCarry};
 ghost use Rattle.net_receiver.specs.Finite.{no_end, acknowledged, is_complete};
 ghost use Rattle.net_receiver.specs.ReceiverState.{limit_of};
 ghost use Rattle.net_tcp.specs.Retransmission.{has_ended};
-ghost use Rattle.net_tcp.specs.Windows.{acknowledgement_number, IsScaleFor};
+ghost use Rattle.net_tcp.specs.Windows.{empty_segment_position, IsScaleFor};
 ghost use Rattle.net_ends.specs.Receiving.{Receiving, promise, IsSoundReceiving};
 ghost use Rattle.net_ends.specs.Pair.{Pair, Step, begun as begun_pair, after_steps, AreHonest, number, has_come};
 ghost use Rattle.net_ends.specs.Pair.{IsAnswerTaken, Told, AtSender, after_step};
@@ -98,7 +98,7 @@ pub fn heard_ends()
     ensures ends { (e : End) (s : Positions) (r : LossRecovery) (says : Bool)
         (seq ack window : ℕ) (now : ℤ) → IsTrue (accepts e.sender ack) →
         let f = after_event e (Heard s r says seq ack window now) in
-        ack ≤ acknowledgement_number f.peer (first f) f.sender.sent }
+        ack ≤ empty_segment_position f.peer (first f) f.sender.sent }
 {
     net_receiver::laws::numbers();
     net_receiver::laws::finite_receivers();

@@ -23,7 +23,7 @@ pub fn hear(sender: &SendingEnd<'_, 4>, receiver: &ReceivingEnd<'_, 4>) -> Arriv
 {
     laws::heard_ends();
     receiver.classify(Segment {
-        seq: sender.acknowledgement_number(),
+        seq: sender.empty_segment_position(),
         len: 0,
         syn: false,
         ack: true,
@@ -41,7 +41,7 @@ pub fn promised_end(sender: &SendingEnd<'_, 4>) -> u64
         q.receiver.edge < result + 2 ^ shift_count q.receiver.scale }
 {
     laws::windows();
-    sender.acknowledgement_number()
+    sender.empty_segment_position()
 }
 
 /// Returns whether all numbers below one have come at the receiving end.

@@ -26,7 +26,7 @@ ghost use Rattle.net_receiver.specs.FiniteSender.{IsSoundFiniteSender, finite_ro
 ghost use Rattle.net_receiver.specs.FiniteSender.{finite_sender_of, sender_after_command, Acknowledges, Marks};
 ghost use Rattle.net_tcp.specs.LossRecovery.{is_active, is_wrong, taken_back};
 ghost use Rattle.net_tcp.specs.Retransmission.{expires_at, has_expired};
-ghost use Rattle.net_tcp.specs.Windows.{acknowledgement_number};
+ghost use Rattle.net_tcp.specs.Windows.{empty_segment_position};
 ghost use Rattle.net_ends.specs.Ends.{new_end, after_event, Opened, Enabled, Opening, Wrote, Shut, IsSegment};
 ghost use Rattle.net_ends.specs.Ends.{first, Resumed};
 ghost use Rattle.net_ffi.specs.Refusals.{no_number};
@@ -759,7 +759,7 @@ pub extern "C" fn net_base_sending_end_expires_at(end: &SendingEnd, moment: &mut
 pub extern "C" fn net_base_sending_end_empty_segment_position(end: &SendingEnd) -> u64
     ensures value { end.now.sender.sender.first_unacknowledged + end.now.sender.finished < 2 ^ 64 →
         (storage : List ℕ) → let e = sending_of end.now storage in
-        result ≡ acknowledgement_number e.peer (first e) e.sender.sent }
+        result ≡ empty_segment_position e.peer (first e) e.sender.sent }
     ensures refused { 2 ^ 64 ≤ end.now.sender.sender.first_unacknowledged
         + end.now.sender.finished → result ≡ 2 ^ 64 - 1 }
 {
@@ -768,7 +768,7 @@ pub extern "C" fn net_base_sending_end_empty_segment_position(end: &SendingEnd) 
     }
     end.head
         .peer_window
-        .acknowledgement_number(numbers_from(&end.sender))
+        .empty_segment_position(numbers_from(&end.sender))
 }
 
 /// Returns whether a recovery lasts.

@@ -20,7 +20,7 @@
 --     window_from seq ack window      the window that a segment leaves
 --     with_segment w seq ack window      the window after a segment
 --     after_update w first sent seq ack window      the window that `update` leaves
---     acknowledgement_number w first sent      the number of a segment without positions
+--     empty_segment_position w first sent      the number of a segment without positions
 --     BothEnds w first sent next edge most      what the two ends know of one another
 --     Announcement, Heard      an arriving segment; what a sender heard so far
 --     heard h s, heard_all h ss      what it heard after one more, and after a list
@@ -148,8 +148,8 @@ after_update w first sent seq ack window = if nat_le first ack && nat_le ack sen
     else w
 
 -- what was sent, but not beyond the window, nor below first
-abbrev pub acknowledgement_number : PeerWindow → ℕ → ℕ → ℕ
-acknowledgement_number w first sent = min sent (max w.edge first)
+abbrev pub empty_segment_position : PeerWindow → ℕ → ℕ → ℕ
+empty_segment_position w first sent = min sent (max w.edge first)
 
 -- the window whose numbers are 0
 abbrev pub no_window : PeerWindow

@@ -4,7 +4,7 @@ ghost use Rattle.std.specs.Prelude.{◌/◌, List, [], ◌∷◌, ◌++◌, All,
 ghost use Rattle.std.specs.Fn.{iterate};
 ghost use Rattle.net_tcp.specs.Windows.{IsAcceptable, IsInTable, IsScaleFor, announced, field_for, gain, worth};
 ghost use Rattle.net_tcp.specs.Windows.{IsBehind, IsHeard, IsTaken, window_from, with_segment, no_window, BothEnds};
-ghost use Rattle.net_tcp.specs.Windows.{acknowledgement_number, Announcement, Heard, acknowledged, updated, heard};
+ghost use Rattle.net_tcp.specs.Windows.{Announcement, empty_segment_position, Heard, acknowledged, updated, heard};
 ghost use Rattle.net_tcp.specs.Windows.{heard_all, IsNoLater, IsNoNewer, IsFromNoNewer};
 ghost use Rattle.net_tcp.specs.Estimate.{Estimate};
 ghost use Rattle.net_tcp.specs.Retransmission.{next_estimate, distance, doubled, IsSettled, Event, Connection};
@@ -143,7 +143,7 @@ pub fn agreement()
         peer_edge ≤ edge → next < seq + len → IsAcceptable next (edge - next) seq len }
 {}
 
-/// States that a segment without positions, whose number is that of `PeerWindow::acknowledgement_number`, is taken by
+/// States that a segment without positions, whose number is that of `PeerWindow::empty_segment_position`, is taken by
 /// the peer, or what it acknowledges is (`heard`): whatever window is known here, and whatever the peer has kept. It
 /// needs that the edge known was promised, that no more is acknowledged than was promised, that the peer has kept
 /// nothing that wasn't sent, and that no more is on the way than the greatest window, or one position if that is 0. So
@@ -159,24 +159,24 @@ pub fn agreement()
 pub fn acknowledgements()
     ensures heard { (w : PeerWindow) (first sent next edge most : ℕ) →
         BothEnds w first sent next edge most →
-        IsTaken next (edge - next) (acknowledgement_number w first sent) 0
-        ⊎ IsHeard next (edge - next) most (acknowledgement_number w first sent) 0 }
+        IsTaken next (edge - next) (empty_segment_position w first sent) 0
+        ⊎ IsHeard next (edge - next) most (empty_segment_position w first sent) 0 }
     ensures exact { (next most seq : ℕ) → IsBehind next most seq 0 →
         let w = window_from 0 seq 0 in
-        BothEnds w seq next next next most × (acknowledgement_number w seq next ≡ seq) }
+        BothEnds w seq next next next most × (empty_segment_position w seq next ≡ seq) }
     ensures ends { (w : PeerWindow) (first sent next most : ℕ) → next ≤ first → first ≤ sent →
-        IsBehind next most (acknowledgement_number w first sent) 0 → ⊥ }
+        IsBehind next most (empty_segment_position w first sent) 0 → ⊥ }
     ensures shut { (w : PeerWindow) (first sent next edge most : ℕ) →
         BothEnds w first sent next edge most → w.edge ≤ first → first ≡ next →
-        IsInTable next (edge - next) (acknowledgement_number w first sent) 0 }
+        IsInTable next (edge - next) (empty_segment_position w first sent) 0 }
     ensures known { (w : PeerWindow) (first sent next edge most : ℕ) →
         BothEnds w first sent next edge most → first ≤ next → next ≤ edge → w.edge ≡ edge →
-        IsInTable next (edge - next) (acknowledgement_number w first sent) 0
-        ⊎ ((acknowledgement_number w first sent ≡ edge) × (next < edge) × (edge ≤ sent)) }
+        IsInTable next (edge - next) (empty_segment_position w first sent) 0
+        ⊎ ((empty_segment_position w first sent ≡ edge) × (next < edge) × (edge ≤ sent)) }
     ensures later { (w : PeerWindow) (first sent next edge most : ℕ) →
         BothEnds w first sent next edge most → first ≤ next → next ≤ edge → w.edge < edge →
         next ≤ max w.edge first →
-        IsInTable next (edge - next) (acknowledgement_number w first sent) 0 }
+        IsInTable next (edge - next) (empty_segment_position w first sent) 0 }
     ensures next_number { (next sent : ℕ) → next < sent → IsInTable next 0 sent 0 → ⊥ }
 {}
 

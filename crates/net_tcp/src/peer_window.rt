@@ -1,7 +1,7 @@
 //! The window that the peer announced.
 ghost use Rattle.std.specs.Prelude.{◌≡◌, ◌↔◌, ◌-◌, ◌*◌, ◌^◌, ◌<◌, ◌≤◌, IsTrue, IsFalse, min, max};
 ghost use Rattle.net_tcp.specs.Windows.{shift_count, Replaces, window_from, after_update};
-ghost use Rattle.net_tcp.specs.Windows.{acknowledgement_number, no_window};
+ghost use Rattle.net_tcp.specs.Windows.{empty_segment_position, no_window};
 
 use crate::advertised_window::MAX_SCALE;
 use net_receiver::SentNumbers;
@@ -211,11 +211,11 @@ impl PeerWindow {
     /// // The window ends at 160, and a probe was sent there.
     /// let window = PeerWindow::of(Announcement { seq: 7, ack: 160, window: 0 });
     /// let numbers = SentNumbers { first_unacknowledged: 160, sent: 161 };
-    /// assert_eq!(window.acknowledgement_number(numbers), 160);
+    /// assert_eq!(window.empty_segment_position(numbers), 160);
     /// ```
     #[must_use]
-    pub fn acknowledgement_number(&self, numbers: SentNumbers) -> u64
-        ensures value { result ≡ acknowledgement_number self.now
+    pub fn empty_segment_position(&self, numbers: SentNumbers) -> u64
+        ensures value { result ≡ empty_segment_position self.now
             numbers.first_unacknowledged numbers.sent }
         // Guarantee.
         ensures sent { result ≤ numbers.sent }

@@ -127,7 +127,7 @@ fn play_peer(draw: &mut Draw, first: u64) {
         assert_eq!((it.edge(), it.send_limit(ack)), (edge, edge.min(ack)));
         assert_eq!(it.is_probe_allowed(seq, ack), edge <= seq && seq < ack);
         let within = edge.max(numbers.first_unacknowledged).min(numbers.sent);
-        assert_eq!(it.acknowledgement_number(numbers), within);
+        assert_eq!(it.empty_segment_position(numbers), within);
     }
 }
 

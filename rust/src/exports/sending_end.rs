@@ -396,7 +396,7 @@ pub fn net_base_sending_end_empty_segment_position(end: &SendingEnd) -> u64 {
     if !has_first(&end.sender) {
         return u64::MAX;
     }
-    end.head.peer_window.acknowledgement_number(numbers_from(&end.sender))
+    end.head.peer_window.empty_segment_position(numbers_from(&end.sender))
 }
 
 #[inline(always)]

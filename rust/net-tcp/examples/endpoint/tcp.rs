@@ -427,7 +427,7 @@ impl<const N: usize> Endpoint<N> {
         }
         self.counts.sent += 1;
         Segment {
-            number: self.sending.acknowledgement_number() as u32,
+            number: self.sending.empty_segment_position() as u32,
             acknowledged: told.next as u32,
             flags: ACK,
             window: told.window,

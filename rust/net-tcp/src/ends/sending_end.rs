@@ -640,7 +640,8 @@ impl<S: Storage<u8>, const N: usize> SendingEndOver<S, N> {
         self.numbers().flight_size()
     }
 
-    /// Returns the number of a segment without positions.
+    /// Returns the position of an empty segment, such as an acknowledgement alone: the sequence number that its header
+    /// has.
     ///
     /// ```
     /// # use net_tcp::SendingEnd;
@@ -652,11 +653,11 @@ impl<S: Storage<u8>, const N: usize> SendingEndOver<S, N> {
     /// # sending.open(Announcement { seq: 1, ack: 100, window: 1000 }, 8, Sack::Permitted, Instant::ZERO);
     /// let _taken = sending.write(b"abc");
     /// let _segment_to_send = sending.next_segment(1200, Instant::ZERO);
-    /// assert_eq!(sending.acknowledgement_number(), 103);
+    /// assert_eq!(sending.empty_segment_position(), 103);
     /// ```
     #[must_use]
-    pub fn acknowledgement_number(&self) -> u64 {
-        self.head.peer_window.acknowledgement_number(self.numbers())
+    pub fn empty_segment_position(&self) -> u64 {
+        self.head.peer_window.empty_segment_position(self.numbers())
     }
 
     /// Enables Nagle's rule (RFC 9293, 3.7.4), or disables it. While something that was sent isn't acknowledged, less

@@ -130,7 +130,7 @@ mod tests {
         // The peer's window ends at 150, and a probe was sent there: an acknowledgement isn't beyond the window.
         let peer_window = PeerWindow::of(Announcement { seq: 0, ack: 150, window: 0 });
         let numbers = SentNumbers { first_unacknowledged: 150, sent: 151 };
-        assert_eq!(peer_window.acknowledgement_number(numbers), 150);
+        assert_eq!(peer_window.empty_segment_position(numbers), 150);
         // A round trip of 100 ms, and then a timeout that passes.
         let mut bounds = TimeoutBounds::new();
         bounds.least = Duration::from_millis(200);

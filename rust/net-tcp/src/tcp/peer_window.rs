@@ -189,7 +189,7 @@ impl PeerWindow {
     /// // The window ends at 160, and a probe was sent there.
     /// let window = PeerWindow::of(Announcement { seq: 7, ack: 160, window: 0 });
     /// let numbers = SentNumbers { first_unacknowledged: 160, sent: 161 };
-    /// assert_eq!(window.acknowledgement_number(numbers), 160);
+    /// assert_eq!(window.empty_segment_position(numbers), 160);
     /// ```
     ///
     /// # [Guarantees](crate#guarantees)
@@ -198,7 +198,7 @@ impl PeerWindow {
     /// - `result <= max(self.edge(), numbers.first_unacknowledged)`
     /// - if `numbers.first_unacknowledged <= numbers.sent`, then `numbers.first_unacknowledged <= result`
     #[must_use]
-    pub fn acknowledgement_number(&self, numbers: SentNumbers) -> u64 {
+    pub fn empty_segment_position(&self, numbers: SentNumbers) -> u64 {
         let first = numbers.first_unacknowledged;
         numbers.sent.min(self.edge.max(first))
     }

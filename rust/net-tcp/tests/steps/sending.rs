@@ -69,7 +69,7 @@ impl<const N: usize> Sending<N> {
             trip: end.round_trip().map(|it| it.total_micros()),
             is_recovering: end.is_recovering(),
             is_done: end.is_done(),
-            beyond: numbers.sent - end.acknowledgement_number(),
+            beyond: numbers.sent - end.empty_segment_position(),
             is_closed: queue.fin,
         }
     }
