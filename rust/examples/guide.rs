@@ -54,7 +54,7 @@ fn receiver() {
 
 fn quic() {
     let written = b"the quick brown fox";
-    let [acked, sent, waiting] = &mut [[Run::EMPTY; 8]; 3]; // eight ranges may wait in each
+    let [acked, sent, waiting] = &mut [[Run::EMPTY; 8]; 3]; // room to remember eight ranges in each
     let mut sending = SendRanges::new(acked, sent);
     let mut receiving = StreamRanges::new(waiting, 32);
     let mut chunks = BTreeMap::new(); // the bytes that came, by position

@@ -18,7 +18,7 @@ use Rattle.net_ends.specs.Ends.{End, Event, Opened, Forgot, Enabled, Opening, Wr
 use Rattle.net_ends.specs.Ends.{Resumed, after_event, after_events, commands, commands_of, IsSegment, may_send}
 use Rattle.net_ends.specs.Path.{written, WasLent, IsUnforged, SaysAtMost, LentIsWritten, EndsCarry}
 use Rattle.net_ends.specs.Receiving as receiving
-use Rattle.net_ends.specs.Receiving.{Receiving, Arrived, Answered, Announced, Acknowledged, Took, is_empty}
+use Rattle.net_ends.specs.Receiving.{Arrived, Answered, Announced, Acknowledged, Took, is_empty}
 use Rattle.net_ends.proofs.Ends.{refines}
 use Rattle.net_ends.proofs.Progress.{stays_sound}
 use Rattle.net_ends.proofs.ReceivingLaws as received

@@ -1,13 +1,13 @@
 //! What receives a stream that ends.
 ghost use Rattle.std.specs.Prelude.{◌≡◌, ◌-◌, ◌+◌, ◌<◌, ◌≤◌, ℕ, min, max, length, take, drop, ◌++◌, nat_eq, nat_lt};
-ghost use Rattle.std.specs.Prelude.{nat_le, ◌&&◌, ◌||◌, not, if◌then◌else◌, None, List, false, [], ◌∷◌};
+ghost use Rattle.std.specs.Prelude.{nat_le, ◌&&◌, ◌||◌, not, if◌then◌else◌, List, false, [], ◌∷◌};
 ghost use Rattle.std.specs.Option.{option_to_list, option_or};
 ghost use Rattle.std.specs.Fn.{FnOnceTakesAt, FnOnceReturnsAt};
 ghost use Rattle.net_tcp.specs.Windows.{IsArrival, announced, field_for};
 ghost use Rattle.net_receiver.specs.ReceiverState.{first_part, contiguous_count, pair_of};
 ghost use Rattle.net_receiver.specs.NewestRuns.{with_starts};
 ghost use Rattle.net_receiver.specs.Finite.{no_end, acknowledged, is_complete, finite_result};
-ghost use Rattle.net_ends.specs.Receiving.{new_receiving, opened, opening_field, is_worth, field_of, promise};
+ghost use Rattle.net_ends.specs.Receiving.{new_receiving, opened, opening_field, is_worth, field_of};
 ghost use Rattle.net_ends.specs.Receiving.{sack_blocks, range_at, count_of, listed, blocks_of, arrival_result};
 ghost use Rattle.net_ends.specs.Receiving.{after_event, Arrived, Answered, Announced, Acknowledged, Took};
 ghost use Rattle.net_ends.specs.Receiving.{after_arrival, adds, reported, part_reported, WaitsAfter};

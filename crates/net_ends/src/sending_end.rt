@@ -469,7 +469,7 @@ impl<S: Storage<u8>, const N: usize> SendingEndOver<S, N> {
     }
 
     /// Takes what a segment acknowledges and announces, the blocks that it reports, and whether it has anything
-    /// besides. Whatever it says, the end stays sound.
+    /// besides. Whatever it says, it can't break the end.
     ///
     /// A block counts that begins above the first number that isn't reported, has a number, and ends where something
     /// was sent and less than 2^32 above that one, if what is reported beyond that one is at most `N` runs then. Any

@@ -182,7 +182,7 @@ impl SendingHead {
     }
 
     /// Takes what a segment acknowledges and announces, and the blocks that it reports. It `is_empty` if it has no byte
-    /// and no FIN. Whatever it says, the end stays sound.
+    /// and no FIN. Whatever it says, it can't break the end.
     ///
     /// A block counts that begins above the first number that isn't reported, has a number, and ends where something
     /// was sent and less than 2^32 above that one, if what is reported beyond that one is at most `N` runs then. Any

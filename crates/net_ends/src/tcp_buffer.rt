@@ -1,7 +1,7 @@
 //! What a sending end of TCP has sent, without a clock: what was reported of it, and what is lost by TCP's rules. (A
 //! stream of QUIC has `net_receiver`'s `SendBuffer`, which is told of each loss.)
-ghost use Rattle.std.specs.Prelude.{◌≡◌, ◌-◌, ◌+◌, ◌<◌, ◌≤◌, ◌&&◌, ℕ, Option, IsTrue, IsFalse, min, max, IfSome};
-ghost use Rattle.std.specs.Prelude.{is_some, true, false, length, ◌↔◌, List};
+ghost use Rattle.std.specs.Prelude.{◌≡◌, ◌-◌, ◌+◌, ◌<◌, ◌≤◌, ℕ, Option, IsTrue, IsFalse, min, max, IfSome};
+ghost use Rattle.std.specs.Prelude.{is_some, true, length, ◌↔◌, List};
 ghost use Rattle.net_assembler.specs.Positions.{contains, with_range, nothing};
 ghost use Rattle.net_tcp.specs.LossRecovery.{is_wrong, taken_back, was_sent_again, is_active, in_flight, next_segment};
 ghost use Rattle.net_tcp.specs.LossRecovery.{next_range, resumed, recovery_of, as_range, gone_on, begins_at};
