@@ -75,7 +75,7 @@ def measured():
     yield "bytes of code | {} | {} |", sizes, span([*ratios, *(ratio for row in ours for ratio in row)])
     linux = {row[0]: [*map(value, row[4:])] for row in cells(peers) if len(row) == 6}
     ratios = [ratio for name, row in linux.items() if name != "10 % lost" for ratio in row]
-    yield "sends, more is better | {} | {} |", peers, span(ratios)[::-1]
+    yield "sends {} to {} times the bytes a second", peers, span(ratios)
     quinn = cells("compare/results/quinn.md")
     tests, transfers = (next(row for row in quinn if row[0] == name) for name in ("pass", "256"))
     yield "passes {} of its {} tests", "compare/results/quinn.md", re.findall(r"\d+", tests[2])
