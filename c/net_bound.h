@@ -22,12 +22,13 @@
  *         return net_bound_finite_receiver_read(&receiver, out, 64) != 6; // "abcdef"
  *     }
  *
- * A call `net_bound_..` is `net_base_..` of net_base.h, whose comment says what it does. Its struct has the head, and
- * where storage, runs or slots are. Only `.._init` is passed these, so duty 5 is kept. A struct of zeros but for its
- * memory is new too. Read its fields as you like, but let only these calls write them.
+ * A call `net_bound_..` is `net_base_..` of net_base.h, whose comment has the whole: what is refused, and what it leaves
+ * then. Times are in microseconds. A struct has the head, and where storage, runs or slots are. Only `.._init` is passed
+ * these, so duty 5 is kept. In place of that call you may zero the struct and set its memory. Read its fields as you
+ * like, but let only these calls write them.
  *
- * What is refused is 0, where a call of net_base.h returns `NET_BASE_NONE` or `UINT64_MAX`. The place of a packet is
- * written to `place`, and false says that there is none.
+ * Where a call of net_base.h returns `NET_BASE_NONE` or `UINT64_MAX`, these return 0. The place of a packet is written to
+ * `place`, and false says that there is none.
  */
 #ifndef NET_BOUND_H
 #define NET_BOUND_H
@@ -55,12 +56,15 @@ struct net_bound_ring {
     uint8_t *storage; /**< As `.._init` was passed it. */
     size_t capacity; /**< How many elements that has. */
 };
+/** Makes `ring` the head of an empty ring, which is sound for each storage. */
 static inline void net_bound_ring_init(
     struct net_bound_ring *ring, uint8_t *storage, size_t capacity) {
     net_base_ring_init(NET_BOUND_HEAD(ring));
     if (!ring) return;
     ring->storage = storage; ring->capacity = capacity;
 }
+/** Returns where at most `size` free elements are, from the one at `offset` on; none if `offset` is
+ * past the free elements. */
 NET_BASE_MUST_USE static inline struct net_base_span net_bound_ring_unallocated(
     const struct net_bound_ring *ring, size_t offset, size_t size) {
     struct net_base_span found = net_base_ring_unallocated(NET_BOUND_HEAD(ring),
@@ -68,6 +72,8 @@ NET_BASE_MUST_USE static inline struct net_base_span net_bound_ring_unallocated(
     found.from = net_bound_or_0(found.from);
     return found;
 }
+/** Returns where at most `size` elements of the queue are, from the one at `offset` on; none if
+ * `offset` is past the queue. */
 NET_BASE_MUST_USE static inline struct net_base_span net_bound_ring_allocated(
     const struct net_bound_ring *ring, size_t offset, size_t size) {
     struct net_base_span found = net_base_ring_allocated(NET_BOUND_HEAD(ring),
@@ -75,19 +81,24 @@ NET_BASE_MUST_USE static inline struct net_base_span net_bound_ring_allocated(
     found.from = net_bound_or_0(found.from);
     return found;
 }
+/** Enqueues `count` elements, with what the storage has there. */
 NET_BASE_MUST_USE static inline bool net_bound_ring_enqueue(
     struct net_bound_ring *ring, size_t count) {
     return net_base_ring_enqueue(NET_BOUND_HEAD(ring), NET_BOUND_CAPACITY(ring), count);
 }
+/** Dequeues `count` elements. */
 NET_BASE_MUST_USE static inline bool net_bound_ring_dequeue(
     struct net_bound_ring *ring, size_t count) {
     return net_base_ring_dequeue(NET_BOUND_HEAD(ring), NET_BOUND_CAPACITY(ring), count);
 }
+/** Enqueues as many elements of `data` as there is room for, and returns how many. */
 NET_BASE_MUST_USE static inline size_t net_bound_ring_enqueue_slice(
     struct net_bound_ring *ring, const uint8_t *data, size_t data_length) {
     return net_bound_or_0(net_base_ring_enqueue_slice(NET_BOUND_HEAD(ring), NET_BOUND_STORAGE(ring),
         data, data_length));
 }
+/** Dequeues as many elements as `into` has room for and are queued, copies them to the beginning of
+ * `into`, and returns how many. */
 NET_BASE_MUST_USE static inline size_t net_bound_ring_dequeue_slice(
     struct net_bound_ring *ring, uint8_t *into, size_t into_length) {
     return net_bound_or_0(net_base_ring_dequeue_slice(NET_BOUND_HEAD(ring), NET_BOUND_STORAGE(ring),
@@ -102,6 +113,7 @@ struct net_bound_packets {
     struct net_base_packet_slot *slots; /**< As `.._init` was passed it. */
     size_t slots_length; /**< How many elements that has. */
 };
+/** Makes `packets` the head of a queue with no packets. */
 static inline void net_bound_packets_init(
     struct net_bound_packets *packets, uint8_t *storage, size_t capacity,
     struct net_base_packet_slot *slots, size_t slots_length) {
@@ -110,11 +122,16 @@ static inline void net_bound_packets_init(
     packets->storage = storage; packets->capacity = capacity;
     packets->slots = slots; packets->slots_length = slots_length;
 }
+/** Takes the last `count` bytes off the last packet, lowers the size in its slot, and returns true:
+ * for a caller that wrote fewer bytes than it placed. */
 NET_BASE_MUST_USE static inline bool net_bound_packets_shorten_last(
     struct net_bound_packets *packets, size_t count) {
     return net_base_packets_shorten_last(NET_BOUND_HEAD(packets), NET_BOUND_SLOTS(packets),
         NET_BOUND_CAPACITY(packets), count);
 }
+/** Appends a packet of `size` bytes, writes its slot and that of its gap, whose `is_gap` is 1, and
+ * returns where they and the packet's bytes are: at the storage's beginning if no byte is in use.
+ */
 NET_BASE_MUST_USE static inline bool net_bound_packets_enqueue(
     struct net_bound_packets *packets, size_t size, struct net_base_packet_place *place) {
     if (!place) packets = NULL;
@@ -124,6 +141,7 @@ NET_BASE_MUST_USE static inline bool net_bound_packets_enqueue(
     *place = found;
     return true;
 }
+/** Takes the first packet off, and the gap before it, and returns where it is. */
 NET_BASE_MUST_USE static inline bool net_bound_packets_dequeue(
     struct net_bound_packets *packets, struct net_base_first_packet *place) {
     if (!place) packets = NULL;
@@ -133,6 +151,8 @@ NET_BASE_MUST_USE static inline bool net_bound_packets_dequeue(
     *place = found;
     return true;
 }
+/** Returns where the first packet is, which stays; otherwise what `net_bound_packets_dequeue`
+ * returns. */
 NET_BASE_MUST_USE static inline bool net_bound_packets_peek(
     const struct net_bound_packets *packets, struct net_base_first_packet *place) {
     if (!place) packets = NULL;
@@ -151,6 +171,8 @@ struct net_bound_fragments {
     struct net_base_run *runs; /**< As `.._init` was passed it. */
     size_t runs_length; /**< How many elements that has. */
 };
+/** Makes `fragments` the head of an empty buffer, whose packet is waited for up to `expires_at`, in
+ * microseconds. */
 static inline void net_bound_fragments_init(
     struct net_bound_fragments *fragments, uint8_t *storage, size_t capacity,
     struct net_base_run *runs, size_t runs_length, int64_t expires_at) {
@@ -159,27 +181,36 @@ static inline void net_bound_fragments_init(
     fragments->storage = storage; fragments->capacity = capacity;
     fragments->runs = runs; fragments->runs_length = runs_length;
 }
+/** Returns whether head and runs are those of a buffer of `capacity` bytes, for any numbers:
+ * `present` and the runs are those of an assembler, which end at `capacity` or below, and at a
+ * known size or below, which is at most `capacity`. */
 NET_BASE_MUST_USE static inline bool net_bound_fragments_is_sound(
     const struct net_bound_fragments *fragments) {
     return net_base_fragments_is_sound(NET_BOUND_HEAD(fragments), NET_BOUND_CAPACITY(fragments),
         NET_BOUND_RUNS(fragments));
 }
+/** Sets the packet's size to `size` bytes, of a buffer of `capacity` bytes. */
 NET_BASE_MUST_USE static inline enum net_base_size_status net_bound_fragments_set_total_size(
     struct net_bound_fragments *fragments, size_t size) {
     return net_base_fragments_set_total_size(NET_BOUND_HEAD(fragments),
         NET_BOUND_CAPACITY(fragments), NET_BOUND_RUNS(fragments), size);
 }
+/** Adds a fragment, whose first byte is that of the packet at `offset`. */
 NET_BASE_MUST_USE static inline enum net_base_fragment_status net_bound_fragments_add(
     struct net_bound_fragments *fragments, size_t offset, const uint8_t *data, size_t data_length) {
     return net_base_fragments_add(NET_BOUND_HEAD(fragments), NET_BOUND_STORAGE(fragments),
         NET_BOUND_RUNS(fragments), offset, data, data_length);
 }
+/** Returns whether a byte that arrived differs from that of the fragment whose first byte is that
+ * of the packet at `offset`. */
 NET_BASE_MUST_USE static inline bool net_bound_fragments_differs(
     const struct net_bound_fragments *fragments, size_t offset, const uint8_t *data,
     size_t data_length) {
     return net_base_fragments_differs(NET_BOUND_HEAD(fragments), NET_BOUND_STORAGE(fragments),
         NET_BOUND_RUNS(fragments), offset, data, data_length);
 }
+/** Returns whether the packet's size is known and all its bytes have arrived, and if so writes the
+ * size to `size`. */
 NET_BASE_MUST_USE static inline bool net_bound_fragments_complete(
     const struct net_bound_fragments *fragments, size_t *size) {
     return net_base_fragments_complete(NET_BOUND_HEAD(fragments), NET_BOUND_CAPACITY(fragments),
@@ -194,6 +225,8 @@ struct net_bound_finite_receiver {
     struct net_base_run *runs; /**< As `.._init` was passed it. */
     size_t runs_length; /**< How many elements that has. */
 };
+/** Makes `receiver` the head of a receiver of a stream that begins at position `first`; nothing has
+ * arrived. */
 NET_BASE_MUST_USE static inline bool net_bound_finite_receiver_init(
     struct net_bound_finite_receiver *receiver, uint8_t *storage, size_t capacity,
     struct net_base_run *runs, size_t runs_length, uint64_t first) {
@@ -202,40 +235,56 @@ NET_BASE_MUST_USE static inline bool net_bound_finite_receiver_init(
     receiver->runs = runs; receiver->runs_length = runs_length;
     return true;
 }
+/** Returns whether this head, a storage of `capacity` bytes and runs are sound: they are those of a
+ * receiver, and the position after its last byte, held ones too, is at most the end, if that is
+ * known, and below 2^64 - 1. */
 NET_BASE_MUST_USE static inline bool net_bound_finite_receiver_is_sound(
     const struct net_bound_finite_receiver *receiver) {
     return net_base_finite_receiver_is_sound(NET_BOUND_HEAD(receiver), NET_BOUND_CAPACITY(receiver),
         NET_BOUND_RUNS(receiver));
 }
+/** Returns whether the stream can end at `position`: it is the end that is known, or none is, and
+ * it isn't below the first missing position or a held run's end. */
 NET_BASE_MUST_USE static inline bool net_bound_finite_receiver_can_end(
     const struct net_bound_finite_receiver *receiver, uint64_t position) {
     return net_base_finite_receiver_can_end(NET_BOUND_HEAD(receiver), NET_BOUND_RUNS(receiver),
         position);
 }
+/** Writes to `number` the number that an acknowledgement carries: the first missing position, or,
+ * once all bytes and the end have arrived, the end plus 1, since the end has a number. */
 NET_BASE_MUST_USE static inline bool net_bound_finite_receiver_acknowledged(
     const struct net_bound_finite_receiver *receiver, uint64_t *number) {
     return net_base_finite_receiver_acknowledged(NET_BOUND_HEAD(receiver), number);
 }
+/** Returns whether all bytes were read, up to the end. */
 NET_BASE_MUST_USE static inline bool net_bound_finite_receiver_has_read_all(
     const struct net_bound_finite_receiver *receiver) {
     return net_base_finite_receiver_has_read_all(NET_BOUND_HEAD(receiver));
 }
+/** Moves bytes from the head of the queue to the beginning of `into`, and returns how many: as many
+ * as are queued and as `into` has room for. */
 NET_BASE_MUST_USE static inline size_t net_bound_finite_receiver_read(
     struct net_bound_finite_receiver *receiver, uint8_t *into, size_t into_length) {
     return net_bound_or_0(net_base_finite_receiver_read(NET_BOUND_HEAD(receiver),
         NET_BOUND_STORAGE(receiver), into, into_length));
 }
+/** Removes the first `count` bytes of the queue, as `net_bound_finite_receiver_read` does, and
+ * copies none. */
 NET_BASE_MUST_USE static inline bool net_bound_finite_receiver_remove(
     struct net_bound_finite_receiver *receiver, size_t count) {
     return net_base_finite_receiver_remove(NET_BOUND_HEAD(receiver), NET_BOUND_CAPACITY(receiver),
         count);
 }
+/** Keeps the bytes of a segment, the first at `position`, that are in the free window and below the
+ * end, and writes to `counts` how many. */
 NET_BASE_MUST_USE static inline enum net_base_segment_status net_bound_finite_receiver_segment(
     struct net_bound_finite_receiver *receiver, uint64_t position, const uint8_t *bytes,
     size_t bytes_length, bool is_last, struct net_base_kept_counts *counts) {
     return net_base_finite_receiver_segment(NET_BOUND_HEAD(receiver), NET_BOUND_STORAGE(receiver),
         NET_BOUND_RUNS(receiver), position, bytes, bytes_length, is_last, counts);
 }
+/** Writes the end of the free window to `end`, for what is announced, where the storage has
+ * `capacity` bytes, and returns true. */
 NET_BASE_MUST_USE static inline bool net_bound_finite_receiver_window_end(
     const struct net_bound_finite_receiver *receiver, uint64_t *end) {
     return net_base_finite_receiver_window_end(NET_BOUND_HEAD(receiver),
@@ -248,6 +297,8 @@ struct net_bound_receiving_end {
     uint8_t *storage; /**< As `.._init` was passed it. */
     size_t capacity; /**< How many elements that has. */
 };
+/** Makes `end` that of a stream that begins at position `first`, at which nothing has arrived, and
+ * whose segments have at most `segment_size` bytes. */
 NET_BASE_MUST_USE static inline bool net_bound_receiving_end_init(
     struct net_bound_receiving_end *end, uint8_t *storage, size_t capacity, uint64_t first,
     uint16_t segment_size) {
@@ -255,46 +306,62 @@ NET_BASE_MUST_USE static inline bool net_bound_receiving_end_init(
     end->storage = storage; end->capacity = capacity;
     return true;
 }
+/** Returns whether this head is that of an end whose storage has `capacity` bytes: its receiver is
+ * sound with the runs. */
 NET_BASE_MUST_USE static inline bool net_bound_receiving_end_is_sound(
     const struct net_bound_receiving_end *end) {
     return net_base_receiving_end_is_sound(NET_BOUND_HEAD(end), NET_BOUND_CAPACITY(end));
 }
+/** Begins again with a stream that begins at position `first`, and whose windows have this scale.
+ */
 NET_BASE_MUST_USE static inline bool net_bound_receiving_end_open(
     struct net_bound_receiving_end *end, uint64_t first, uint8_t scale, uint16_t *window) {
     return net_base_receiving_end_open(NET_BOUND_HEAD(end), NET_BOUND_CAPACITY(end), first, scale,
         window);
 }
+/** Returns what to do with a segment, in the window that was announced, whatever is free now. */
 NET_BASE_MUST_USE static inline enum net_base_arrival_status net_bound_receiving_end_classify(
     const struct net_bound_receiving_end *end, const struct net_base_segment *segment) {
     return net_base_receiving_end_classify(NET_BOUND_HEAD(end), NET_BOUND_CAPACITY(end), segment);
 }
+/** Takes the bytes of a segment, the first at `position`, and the end if it `is_last`, writes to
+ * `counts` how many were kept, and answers as `net_bound_finite_receiver_segment`. */
 NET_BASE_MUST_USE static inline enum net_base_segment_status net_bound_receiving_end_arrived(
     struct net_bound_receiving_end *end, uint64_t position, const uint8_t *bytes,
     size_t bytes_length, bool is_last, struct net_base_kept_counts *counts) {
     return net_base_receiving_end_arrived(NET_BOUND_HEAD(end), NET_BOUND_STORAGE(end), position,
         bytes, bytes_length, is_last, counts);
 }
+/** Has an acknowledgement sent at once. */
 static inline void net_bound_receiving_end_answer(struct net_bound_receiving_end *end) {
     net_base_receiving_end_answer(NET_BOUND_HEAD(end));
 }
+/** Returns whether an acknowledgement is to be sent at once. */
 NET_BASE_MUST_USE static inline bool net_bound_receiving_end_is_due(
     const struct net_bound_receiving_end *end) {
     return net_base_receiving_end_is_due(NET_BOUND_HEAD(end));
 }
+/** Returns whether an acknowledgement is to be sent before one waits, where the storage has
+ * `capacity` bytes: something came, or an update of the window is worth a segment. */
 NET_BASE_MUST_USE static inline bool net_bound_receiving_end_is_wanted(
     const struct net_bound_receiving_end *end) {
     return net_base_receiving_end_is_wanted(NET_BOUND_HEAD(end), NET_BOUND_CAPACITY(end));
 }
+/** Writes what a segment with bytes of its own tells, takes notice that it does, and returns true:
+ * the first missing number to `next`, and to `window` the window, in units of the scale. */
 NET_BASE_MUST_USE static inline bool net_bound_receiving_end_announce(
     struct net_bound_receiving_end *end, uint64_t *next, uint16_t *window) {
     return net_base_receiving_end_announce(NET_BOUND_HEAD(end), NET_BOUND_CAPACITY(end), next,
         window);
 }
+/** Writes what a segment without bytes tells, takes notice that it does, and returns true. */
 NET_BASE_MUST_USE static inline bool net_bound_receiving_end_acknowledgement(
     struct net_bound_receiving_end *end, struct net_base_acknowledgement *acknowledgement) {
     return net_base_receiving_end_acknowledgement(NET_BOUND_HEAD(end), NET_BOUND_CAPACITY(end),
         acknowledgement);
 }
+/** Moves bytes from the head of the queue to the beginning of `into`, and returns how many: as many
+ * as are queued and as `into` has room for. */
 NET_BASE_MUST_USE static inline size_t net_bound_receiving_end_read(
     struct net_bound_receiving_end *end, uint8_t *into, size_t into_length) {
     return net_bound_or_0(net_base_receiving_end_read(NET_BOUND_HEAD(end), NET_BOUND_STORAGE(end),
@@ -307,6 +374,8 @@ struct net_bound_sending_end {
     uint8_t *storage; /**< As `.._init` was passed it. */
     size_t capacity; /**< How many elements that has. */
 };
+/** Makes `end` the end of a stream that begins at position `first`, to which nothing was written.
+ */
 NET_BASE_MUST_USE static inline bool net_bound_sending_end_init(
     struct net_bound_sending_end *end, uint8_t *storage, size_t capacity, uint64_t first,
     uint64_t first_timeout, const struct net_base_timeout_bounds *bounds) {
@@ -314,32 +383,44 @@ NET_BASE_MUST_USE static inline bool net_bound_sending_end_init(
     end->storage = storage; end->capacity = capacity;
     return true;
 }
+/** Returns whether the end is sound over a storage of `capacity` bytes: `sender` is that of a
+ * sender over as many, and `head.buffer.scoreboard` is sound with `runs`. */
 NET_BASE_MUST_USE static inline bool net_bound_sending_end_is_sound(
     const struct net_bound_sending_end *end) {
     return net_base_sending_end_is_sound(NET_BOUND_HEAD(end), NET_BOUND_CAPACITY(end));
 }
+/** Begins with a peer, whose SYN announced a window, how many bytes a segment may have, and whether
+ * it reports blocks (SACK): one that doesn't couldn't answer a probe, and is sent none. */
 NET_BASE_MUST_USE static inline bool net_bound_sending_end_open(
     struct net_bound_sending_end *end, const struct net_base_announcement *announcement,
     size_t segment_size, bool reports, int64_t now) {
     return net_base_sending_end_open(NET_BOUND_HEAD(end), NET_BOUND_CAPACITY(end), announcement,
         segment_size, reports, now);
 }
+/** Returns whether a SYN is to be sent now, the first one or one after a timeout, and starts the
+ * timer for the next. */
 NET_BASE_MUST_USE static inline bool net_bound_sending_end_is_opening_due(
     struct net_bound_sending_end *end, int64_t now) {
     return net_base_sending_end_is_opening_due(NET_BOUND_HEAD(end), NET_BOUND_CAPACITY(end), now);
 }
+/** Enables Nagle's rule (RFC 9293, 3.7.4), or disables it. */
 static inline void net_bound_sending_end_set_nagle_enabled(
     struct net_bound_sending_end *end, bool enabled) {
     net_base_sending_end_set_nagle_enabled(NET_BOUND_HEAD(end), enabled);
 }
+/** Enqueues the first of these bytes, as many as there is room for, and returns how many: none of a
+ * stream that is closed. */
 NET_BASE_MUST_USE static inline size_t net_bound_sending_end_write(
     struct net_bound_sending_end *end, const uint8_t *bytes, size_t bytes_length) {
     return net_bound_or_0(net_base_sending_end_write(NET_BOUND_HEAD(end), NET_BOUND_STORAGE(end),
         bytes, bytes_length));
 }
+/** Ends the stream after what was written. */
 static inline void net_bound_sending_end_close(struct net_bound_sending_end *end) {
     net_base_sending_end_close(NET_BOUND_HEAD(end));
 }
+/** Takes what a segment acknowledges and announces, and the blocks that it reports, as positions.
+ */
 NET_BASE_MUST_USE static inline struct net_base_taken_acknowledgement
 net_bound_sending_end_acknowledged(
     struct net_bound_sending_end *end, const struct net_base_announcement *announcement,
@@ -347,19 +428,26 @@ net_bound_sending_end_acknowledged(
     return net_base_sending_end_acknowledged(NET_BOUND_HEAD(end), NET_BOUND_CAPACITY(end),
         announcement, blocks, blocks_length, is_empty, now);
 }
+/** Returns whether the timer has ended, and what that means. */
 NET_BASE_MUST_USE static inline struct net_base_ended_timer net_bound_sending_end_expired(
     struct net_bound_sending_end *end, int64_t now) {
     return net_base_sending_end_expired(NET_BOUND_HEAD(end), NET_BOUND_CAPACITY(end), now);
 }
+/** Returns whether the last recovery was for nothing, and ends it then: nothing that was found lost
+ * is missing but what was sent again, and all that was sent again came twice (RFC 3708). */
 NET_BASE_MUST_USE static inline bool net_bound_sending_end_take_back(
     struct net_bound_sending_end *end) {
     return net_base_sending_end_take_back(NET_BOUND_HEAD(end), NET_BOUND_CAPACITY(end));
 }
+/** Returns the segment that is to be sent now, and takes notice that it is: if the peer's window
+ * and the congestion window have room for one, or as a probe. */
 NET_BASE_MUST_USE static inline struct net_base_outgoing_segment net_bound_sending_end_next_segment(
     struct net_bound_sending_end *end, uint64_t congestion_window, int64_t now) {
     return net_base_sending_end_next_segment(NET_BOUND_HEAD(end), NET_BOUND_CAPACITY(end),
         congestion_window, now);
 }
+/** Returns where the bytes of a segment from `position` on are, whose numbers are below `limit`, in
+ * two parts, and whether the stream ends after them. */
 NET_BASE_MUST_USE static inline struct net_base_segment_parts net_bound_sending_end_bytes(
     const struct net_bound_sending_end *end, uint64_t position, uint64_t limit) {
     struct net_base_segment_parts found = net_base_sending_end_bytes(NET_BOUND_HEAD(end),
@@ -367,19 +455,25 @@ NET_BASE_MUST_USE static inline struct net_base_segment_parts net_bound_sending_
     found.from = net_bound_or_0(found.from);
     return found;
 }
+/** Returns whether all that was written is acknowledged, and the end. */
 NET_BASE_MUST_USE static inline bool net_bound_sending_end_is_done(
     const struct net_bound_sending_end *end) {
     return net_base_sending_end_is_done(NET_BOUND_HEAD(end));
 }
+/** Returns whether the timer runs, and writes to `moment` when `net_bound_sending_end_expired` is
+ * to be asked, if it does. */
 NET_BASE_MUST_USE static inline bool net_bound_sending_end_expires_at(
     const struct net_bound_sending_end *end, int64_t *moment) {
     return net_base_sending_end_expires_at(NET_BOUND_HEAD(end), moment);
 }
+/** Returns the position that an empty segment has, as an acknowledgement alone: its sequence
+ * number. */
 NET_BASE_MUST_USE static inline uint64_t net_bound_sending_end_empty_segment_position(
     const struct net_bound_sending_end *end) {
     uint64_t number = net_base_sending_end_empty_segment_position(NET_BOUND_HEAD(end));
     return number == UINT64_MAX ? 0 : number;
 }
+/** Returns whether a recovery lasts. */
 NET_BASE_MUST_USE static inline bool net_bound_sending_end_is_recovering(
     const struct net_bound_sending_end *end) {
     return net_base_sending_end_is_recovering(NET_BOUND_HEAD(end));

@@ -317,11 +317,8 @@ def c_comment(lines, structs, indent=""):
     if not lines:
         return []
     wrapped = wrapped_text(c_text(lines, structs), WIDTH - len(indent) - 4)
-    if len(wrapped) == 1 and len(indent) + len(wrapped[0]) + 7 <= WIDTH:
-        return [f"{indent}/** {wrapped[0]} */"]
-    body = [f"{indent} * {line}".rstrip() for line in wrapped]
-    last = [f"{indent} */"] if len(body[-1]) + 3 > WIDTH else [f"{body.pop()} */"]
-    return [f"{indent}/** {wrapped[0]}", *body[1:], *last]
+    *rows, last = [f"{indent}/** {wrapped[0]}", *[f"{indent} * {line}".rstrip() for line in wrapped[1:]]]
+    return [*rows, last, f"{indent} */"] if len(last) + 3 > WIDTH else [*rows, f"{last} */"]
 
 
 def documented(code, lines, structs):

@@ -1,5 +1,5 @@
 //! The data structures inside a network stack: byte rings, packet queues, reassembly of segments that arrive out of
-//! order, retransmission, timers and checksums. Calls are proved for every input, except for [some
+//! order, retransmission, timers and checksums. Calls are proved for every input that they allow, except for [some
 //! parts](#what-is-proved). None needs a heap. The crate needs Rust 1.85, and a target of 32 or 64 bits.
 //!
 //! A segment is a position and some bytes. A [`Receiver`](receiver::Receiver) puts segments in order:
@@ -74,8 +74,8 @@
 //! `N` is how many ranges may wait. Write it with the type: `Receiver::<8>::new(&mut storage)`. A type that you write
 //! without it, as in `let receiver: Receiver = ..`, has N = 4. A receiver whose `N` is 0 doesn't compile.
 //!
-//! `Assembler` and `Scoreboard` have no storage. Their `new()` has room for 4 ranges, as in smoltcp, and
-//! `Assembler::<8>::empty()` has room for 8. A type is `Send` and `Sync` if its storage is.
+//! `Assembler` and `Scoreboard` have no storage. Their `new()` has room for 4 ranges, also if a feature sets another
+//! number, which smoltcp's follows. `Assembler::<8>::empty()` has room for 8. A type is `Send` and `Sync` if its storage is.
 //!
 //! # What is proved
 //!
@@ -95,7 +95,7 @@
 //!
 //! # Guarantees
 //!
-//! Under this word a function's page has some statements of its contract. `old(x)` is x before the call, and `x` what
+//! A section of this name, on a function's page, quotes statements of its contract in Rust's words. `old(x)` is x before the call, and `x` what
 //! it is afterwards. Numbers in them have no bound, so sums don't wrap. `docs/CONTRACTS.md` of the repository explains
 //! what isn't a call here.
 //!
@@ -108,7 +108,8 @@
 //!   [`ASSEMBLER_MAX_SEGMENT_COUNT`](config::ASSEMBLER_MAX_SEGMENT_COUNT), which is 4 without any. A program can name
 //!   it as `N`.
 //!
-//! smoltcp's other features that a program of these modules can't leave out are accepted, and change nothing.
+//! These features of smoltcp are accepted, and change nothing: `packetmeta-id`, `medium-ethernet`, `medium-ip`,
+//! `proto-ipv4-fragmentation`, `proto-ipv4` and `proto-ipv6`.
 #![no_std]
 #![cfg_attr(docsrs, feature(doc_cfg))]
 #![forbid(unsafe_code)]

@@ -70,10 +70,12 @@ class Call:
 
     def text(self):
         must = "NET_BASE_MUST_USE " * ffi.must_use(self.item, self.structs)
+        # What it does is the first sentence of the comment in net_base.h.
+        does = re.match(r".*?[.](?=\s|$)", "\n".join(self.item.doc), flags=re.S)[0].replace("net_base_", "net_bound_")
         head = f"{must}static inline {'bool' if self.is_place else self.kind} {self.name}("
         *before, head = head.rsplit(" ", 1) if len(head) > ffi.WIDTH else [head]
         rows = [row for line in self.body() for row in wrapped(line)]
-        return [*before, *ffi.filled(head, self.parameters(), ") {"), *rows, "}"]
+        return [*ffi.c_comment([does], self.structs), *before, *ffi.filled(head, self.parameters(), ") {"), *rows, "}"]
 
     def through(self):
         """A function with the parameters of the call of net_base.h that makes the one here, and the macro that has it
