@@ -892,7 +892,7 @@ NET_BASE_MUST_USE enum net_base_segment_status net_base_receiving_end_arrived(
     size_t bytes_length, bool is_last, struct net_base_kept_counts *NET_BASE_RESTRICT counts)
     NET_BASE_LINK(receiving_end_arrived);
 
-/** Has an acknowledgement sent at once. */
+/** Makes `net_base_receiving_end_is_due` true: an acknowledgement is to be sent at once. */
 void net_base_receiving_end_answer(
     struct net_base_receiving_end *end) NET_BASE_LINK(receiving_end_answer);
 
@@ -900,7 +900,7 @@ void net_base_receiving_end_answer(
 NET_BASE_MUST_USE bool net_base_receiving_end_is_due(
     const struct net_base_receiving_end *end) NET_BASE_LINK(receiving_end_is_due);
 
-/** Returns whether an acknowledgement is to be sent before one waits, where the storage has
+/** Returns whether an acknowledgement is to be sent before the program waits, where the storage has
  * `capacity` bytes: something came, or an update of the window is worth a segment. Once all has
  * arrived no update is.
  *

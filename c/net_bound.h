@@ -130,8 +130,7 @@ NET_BASE_MUST_USE static inline bool net_bound_packets_shorten_last(
         NET_BOUND_CAPACITY(packets), count);
 }
 /** Appends a packet of `size` bytes, writes its slot and that of its gap, whose `is_gap` is 1, and
- * returns where they and the packet's bytes are: at the storage's beginning if no byte is in use.
- */
+ * writes to `place` where they and the packet's bytes are. */
 NET_BASE_MUST_USE static inline bool net_bound_packets_enqueue(
     struct net_bound_packets *packets, size_t size, struct net_base_packet_place *place) {
     if (!place) packets = NULL;
@@ -141,7 +140,7 @@ NET_BASE_MUST_USE static inline bool net_bound_packets_enqueue(
     *place = found;
     return true;
 }
-/** Takes the first packet off, and the gap before it, and returns where it is. */
+/** Takes the first packet off, and the gap before it, and writes to `place` where it is. */
 NET_BASE_MUST_USE static inline bool net_bound_packets_dequeue(
     struct net_bound_packets *packets, struct net_base_first_packet *place) {
     if (!place) packets = NULL;
@@ -151,8 +150,7 @@ NET_BASE_MUST_USE static inline bool net_bound_packets_dequeue(
     *place = found;
     return true;
 }
-/** Returns where the first packet is, which stays; otherwise what `net_bound_packets_dequeue`
- * returns. */
+/** Writes to `place` where the first packet is, which stays. */
 NET_BASE_MUST_USE static inline bool net_bound_packets_peek(
     const struct net_bound_packets *packets, struct net_base_first_packet *place) {
     if (!place) packets = NULL;
@@ -181,9 +179,7 @@ static inline void net_bound_fragments_init(
     fragments->storage = storage; fragments->capacity = capacity;
     fragments->runs = runs; fragments->runs_length = runs_length;
 }
-/** Returns whether head and runs are those of a buffer of `capacity` bytes, for any numbers:
- * `present` and the runs are those of an assembler, which end at `capacity` or below, and at a
- * known size or below, which is at most `capacity`. */
+/** Returns whether head and runs are those of a buffer of `capacity` bytes, for any numbers. */
 NET_BASE_MUST_USE static inline bool net_bound_fragments_is_sound(
     const struct net_bound_fragments *fragments) {
     return net_base_fragments_is_sound(NET_BOUND_HEAD(fragments), NET_BOUND_CAPACITY(fragments),
@@ -235,9 +231,7 @@ NET_BASE_MUST_USE static inline bool net_bound_finite_receiver_init(
     receiver->runs = runs; receiver->runs_length = runs_length;
     return true;
 }
-/** Returns whether this head, a storage of `capacity` bytes and runs are sound: they are those of a
- * receiver, and the position after its last byte, held ones too, is at most the end, if that is
- * known, and below 2^64 - 1. */
+/** Returns whether this head, a storage of `capacity` bytes and runs are sound. */
 NET_BASE_MUST_USE static inline bool net_bound_finite_receiver_is_sound(
     const struct net_bound_finite_receiver *receiver) {
     return net_base_finite_receiver_is_sound(NET_BOUND_HEAD(receiver), NET_BOUND_CAPACITY(receiver),
@@ -306,8 +300,7 @@ NET_BASE_MUST_USE static inline bool net_bound_receiving_end_init(
     end->storage = storage; end->capacity = capacity;
     return true;
 }
-/** Returns whether this head is that of an end whose storage has `capacity` bytes: its receiver is
- * sound with the runs. */
+/** Returns whether this head is that of an end whose storage has `capacity` bytes. */
 NET_BASE_MUST_USE static inline bool net_bound_receiving_end_is_sound(
     const struct net_bound_receiving_end *end) {
     return net_base_receiving_end_is_sound(NET_BOUND_HEAD(end), NET_BOUND_CAPACITY(end));
@@ -332,7 +325,7 @@ NET_BASE_MUST_USE static inline enum net_base_segment_status net_bound_receiving
     return net_base_receiving_end_arrived(NET_BOUND_HEAD(end), NET_BOUND_STORAGE(end), position,
         bytes, bytes_length, is_last, counts);
 }
-/** Has an acknowledgement sent at once. */
+/** Makes `net_bound_receiving_end_is_due` true: an acknowledgement is to be sent at once. */
 static inline void net_bound_receiving_end_answer(struct net_bound_receiving_end *end) {
     net_base_receiving_end_answer(NET_BOUND_HEAD(end));
 }
@@ -341,7 +334,7 @@ NET_BASE_MUST_USE static inline bool net_bound_receiving_end_is_due(
     const struct net_bound_receiving_end *end) {
     return net_base_receiving_end_is_due(NET_BOUND_HEAD(end));
 }
-/** Returns whether an acknowledgement is to be sent before one waits, where the storage has
+/** Returns whether an acknowledgement is to be sent before the program waits, where the storage has
  * `capacity` bytes: something came, or an update of the window is worth a segment. */
 NET_BASE_MUST_USE static inline bool net_bound_receiving_end_is_wanted(
     const struct net_bound_receiving_end *end) {
@@ -383,8 +376,7 @@ NET_BASE_MUST_USE static inline bool net_bound_sending_end_init(
     end->storage = storage; end->capacity = capacity;
     return true;
 }
-/** Returns whether the end is sound over a storage of `capacity` bytes: `sender` is that of a
- * sender over as many, and `head.buffer.scoreboard` is sound with `runs`. */
+/** Returns whether the end is sound over a storage of `capacity` bytes. */
 NET_BASE_MUST_USE static inline bool net_bound_sending_end_is_sound(
     const struct net_bound_sending_end *end) {
     return net_base_sending_end_is_sound(NET_BOUND_HEAD(end), NET_BOUND_CAPACITY(end));

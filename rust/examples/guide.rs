@@ -40,7 +40,7 @@ fn receiver() {
     let mut receiver = Receiver::<2>::new(&mut storage[..]); // at most two ranges may wait
     let mut recent = [0; 2]; // where the newest ranges begin
     for (position, data) in [(0, "abcd"), (6, "gh"), (10, "kl"), (14, "op"), (4, "ef")] {
-        if let Err(refused) = receiver.segment(position, data.as_bytes()) {
+        if let Err(refused) = receiver.keep(position, data.as_bytes()) {
             println!("{data}: {refused}");
         }
         // What an acknowledgement of TCP says.

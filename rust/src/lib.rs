@@ -74,8 +74,8 @@
 //! `N` is how many ranges may wait. Write it with the type: `Receiver::<8>::new(&mut storage)`. A type that you write
 //! without it, as in `let receiver: Receiver = ..`, has N = 4. A receiver whose `N` is 0 doesn't compile.
 //!
-//! `Assembler` and `Scoreboard` have no storage. Their `new()` has room for 4 ranges, also if a feature sets another
-//! number, which smoltcp's follows. `Assembler::<8>::empty()` has room for 8. A type is `Send` and `Sync` if its storage is.
+//! `Assembler` and `Scoreboard` have no storage. Their `new()` always has room for 4 ranges, where smoltcp's follows a
+//! feature. `Assembler::<8>::empty()` has room for 8. A type is `Send` and `Sync` if its storage is.
 //!
 //! # What is proved
 //!
@@ -95,9 +95,9 @@
 //!
 //! # Guarantees
 //!
-//! A section of this name, on a function's page, quotes statements of its contract in Rust's words. `old(x)` is x before the call, and `x` what
-//! it is afterwards. Numbers in them have no bound, so sums don't wrap. `docs/CONTRACTS.md` of the repository explains
-//! what isn't a call here.
+//! A section of this name, on a function's page, quotes statements of its contract in Rust's words. `old(x)` is x
+//! before the call, and `x` what it is afterwards. Numbers in them have no bound, so sums don't wrap.
+//! `docs/CONTRACTS.md` of the repository explains the names in them that no call has.
 //!
 //! # Features
 //!

@@ -70,12 +70,15 @@ class Call:
 
     def text(self):
         must = "NET_BASE_MUST_USE " * ffi.must_use(self.item, self.structs)
-        # What it does is the first sentence of the comment in net_base.h.
-        does = re.match(r".*?[.](?=\s|$)", "\n".join(self.item.doc), flags=re.S)[0].replace("net_base_", "net_bound_")
+        # What it does is the first sentence of the comment in net_base.h, up to what a struct with its memory hides.
+        end = "[.:;]" if self.is_place or self.name.endswith("_is_sound") else "[.]"
+        does = re.match(rf"(.*?){end}(?=\s|$)", "\n".join(self.item.doc), flags=re.S)[1].replace("net_base_", "net_bound_")
+        does = re.sub(r"\b([Rr])eturns(?= where)", lambda it: "writes to `place`" if it[1] == "r" else "Writes to `place`",
+                      does) if self.is_place else does
         head = f"{must}static inline {'bool' if self.is_place else self.kind} {self.name}("
         *before, head = head.rsplit(" ", 1) if len(head) > ffi.WIDTH else [head]
         rows = [row for line in self.body() for row in wrapped(line)]
-        return [*ffi.c_comment([does], self.structs), *before, *ffi.filled(head, self.parameters(), ") {"), *rows, "}"]
+        return [*ffi.c_comment([f"{does}."], self.structs), *before, *ffi.filled(head, self.parameters(), ") {"), *rows, "}"]
 
     def through(self):
         """A function with the parameters of the call of net_base.h that makes the one here, and the macro that has it

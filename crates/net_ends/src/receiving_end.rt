@@ -266,7 +266,7 @@ impl ReceivingHead {
         };
     }
 
-    /// Has an acknowledgement sent at once.
+    /// Makes `is_due` true: an acknowledgement is to be sent at once.
     pub fn answer(&mut self)
         ensures { self.new ≡ record self.old { unanswered = 2 } }
     {
@@ -280,7 +280,7 @@ impl ReceivingHead {
         self.unanswered >= 2
     }
 
-    /// Returns whether an acknowledgement is to be sent before one waits, as `ReceivingEndOver::is_wanted` says.
+    /// Returns whether an acknowledgement is to be sent before the program waits, as `ReceivingEndOver::is_wanted`.
     ///
     /// # Requires
     ///
@@ -553,7 +553,7 @@ impl<S: Storage<u8>, const N: usize> ReceivingEndOver<S, N> {
         kept
     }
 
-    /// Has an acknowledgement sent at once.
+    /// Makes `is_due` true: an acknowledgement is to be sent at once.
     ///
     /// ```
     /// # use net_tcp::ReceivingEnd;
@@ -589,8 +589,8 @@ impl<S: Storage<u8>, const N: usize> ReceivingEndOver<S, N> {
         self.head.is_due()
     }
 
-    /// Returns whether an acknowledgement is to be sent before one waits: something came, or an update of the window
-    /// is worth a segment. No update is, once all bytes and the end have arrived: nothing follows that needs room, and
+    /// Returns whether an acknowledgement is to be sent before the program waits: something came, or an update of the
+    /// window is worth a segment. No update is, once all bytes and the end have arrived: nothing follows that needs room, and
     /// a peer that has closed its connection would answer it by a reset.
     ///
     /// ```

@@ -429,7 +429,7 @@ pub extern "C" fn net_base_receiving_end_arrived(
     }
 }
 
-/// Has an acknowledgement sent at once.
+/// Makes `net_base_receiving_end_is_due` true: an acknowledgement is to be sent at once.
 #[unsafe(no_mangle)]
 pub extern "C" fn net_base_receiving_end_answer(end: &mut ReceivingEnd)
     ensures { end.new ≡ record end.old { head = record end.old.head { unanswered = 2 } } }
@@ -445,8 +445,8 @@ pub extern "C" fn net_base_receiving_end_is_due(end: &ReceivingEnd) -> bool
     end.head.is_due()
 }
 
-/// Returns whether an acknowledgement is to be sent before one waits, where the storage has `capacity` bytes: something
-/// came, or an update of the window is worth a segment. Once all has arrived no update is.
+/// Returns whether an acknowledgement is to be sent before the program waits, where the storage has `capacity` bytes:
+/// something came, or an update of the window is worth a segment. Once all has arrived no update is.
 ///
 /// It is refused if `end` isn't one over `capacity` bytes: false.
 ///
