@@ -127,7 +127,8 @@ pub struct SendRangesOver<R: Storage<Run>> {
 pub type SendRanges<'a> = SendRangesOver<ManagedSlice<'a, Run>>;
 
 impl<R: Storage<Run>> SendRangesOver<R> {
-    /// Returns what is known of a stream that begins at position `first`, to which nothing was written.
+    /// Returns what is known of a stream that begins at position `first`, to which nothing was written. `acknowledged`
+    /// has room for the ranges that are acknowledged out of order, and `settled` for those in flight beyond a lost one.
     ///
     /// ```
     /// # use net_base::finite::SendRangesOver;
