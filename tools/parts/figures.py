@@ -113,11 +113,11 @@ def counted():
     seeds, kinds = first(r"SEEDS: u64 = (\d+)", calls), first(r"KINDS: [^=]*; (\d+)\]", calls)
     for text in ("{} random sequences of calls", "{} sequences of [random calls]"):
         yield text, calls, [f"{int(seeds) * int(kinds):,}"]
-    for text in ("each function but [{}]", "{} functions, each with its reason"):
+    for text in ("For all but [{}]", "{} functions, each with its reason"):
         yield text, left, [WORDS[first(r"^== left\n(.*)", left).count(" ~~ ") // 2]]
     same = ("tools/same_program.py", "tools/parts/same_*.py", "tools/parts/mir_text.py")
     yield "with its parts {} lines of Python", ", ".join(same), [tens(count("\n", *same))]
-    yield "what rustc {}, {} and {} make of it", "tools/widths.py", re.findall(
+    yield "the MIR of rustc {}, {} and {} does", "tools/widths.py", re.findall(
         r"'([\d.]+)\.'", first(r"^READS = (.*)", "tools/widths.py"))
     planted = plants.SECTIONS.copy()
     yield "each of {} weakened scripts", "tools/parts/plants.txt", [str(len(planted.pop(("weakened",))))]
