@@ -117,7 +117,7 @@ def counted():
         yield text, left, [WORDS[first(r"^== left\n(.*)", left).count(" ~~ ") // 2]]
     same = ("tools/same_program.py", "tools/parts/same_*.py", "tools/parts/mir_text.py")
     yield "with its parts {} lines of Python", ", ".join(same), [tens(count("\n", *same))]
-    yield "the MIR of rustc {}, {} and {} does", "tools/widths.py", re.findall(
+    yield "the MIR of rustc {}, and of your {} or {}, does", "tools/widths.py", re.findall(
         r"'([\d.]+)\.'", first(r"^READS = (.*)", "tools/widths.py"))
     planted = plants.SECTIONS.copy()
     yield "each of {} weakened scripts", "tools/parts/plants.txt", [str(len(planted.pop(("weakened",))))]
