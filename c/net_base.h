@@ -295,9 +295,10 @@ enum NET_BASE_32_BITS net_base_arrival_status {
      * window is shut, and the peer asks whether it has opened; or the segment is empty and below
      * the window, as an old acknowledgement or a keep-alive. */
     NET_BASE_ARRIVAL_ACKNOWLEDGEMENT_ONLY = 7,
-    /** Send an acknowledgement, and take nothing of a segment. If it has bytes, and no SYN or RST,
-     * pass these to `net_base_receiving_end_arrived` before that: it keeps none, but the answer
-     * then reports what came twice (RFC 2883). */
+    /** Send an acknowledgement, and take nothing of a segment. If it has neither SYN nor RST, and
+     * all its bytes are below the first missing number, pass these to
+     * `net_base_receiving_end_arrived` before that: it keeps none, but the answer then reports
+     * what came twice (RFC 2883). */
     NET_BASE_ARRIVAL_ANSWER = 8,
     NET_BASE_ARRIVAL_IGNORE = 9, /**< Take nothing of a segment, and send nothing. */
     NET_BASE_ARRIVAL_RESET = 10, /**< The peer has reset the connection. */
@@ -328,9 +329,11 @@ enum NET_BASE_32_BITS net_base_expired_status {
      * next segment is a probe for an answer. */
     NET_BASE_EXPIRED_OVERDUE = 13,
     /** The next segment is a probe of a shut window, or, with nothing in flight, has what was held
-     * back. */
+     * back. Halve */
     NET_BASE_EXPIRED_PROBE = 11,
-    NET_BASE_EXPIRED_LOST = 14, /**< All that was sent is lost: let one segment be in flight. */
+    /** All that was sent is lost: let one segment be in flight. `net_base_sending_end_take_back`
+     * may undo that, as it does a halving. */
+    NET_BASE_EXPIRED_LOST = 14,
     NET_BASE_EXPIRED_REFUSED = 2, /**< What was passed is nonsense. Nothing changes. */
     NET_BASE_WIDEST(EXPIRED)
 };
@@ -864,7 +867,8 @@ NET_BASE_MUST_USE bool net_base_receiving_end_is_sound(
 
 /** Begins again with a stream that begins at position `first`, and whose windows have this scale.
  * `capacity` is how many bytes the storage has. Writes to `window` what a SYN announces, which has
- * no scale, and returns true.
+ * no scale, and returns true. Pass the smallest scale for which `capacity >> scale` is at most
+ * 65535: a window is announced in whole units of `1 << scale`. One above 14 counts as 14.
  *
  * It is refused if `first` is `UINT64_MAX`: false, and nothing changes. */
 NET_BASE_MUST_USE bool net_base_receiving_end_open(
@@ -1135,7 +1139,9 @@ struct net_base_taken_acknowledgement {
 /** What the timer's end means. */
 struct net_base_ended_timer {
     enum net_base_expired_status status; /**< What it means. */
-    bool begins; /**< Whether it begins a recovery: then halve the congestion window. */
+    /** Whether `NET_BASE_EXPIRED_OVERDUE` begins a recovery: then halve the congestion window.
+     * False at all others. */
+    bool begins;
 };
 
 /** A segment to send now. */
@@ -1234,7 +1240,8 @@ NET_BASE_MUST_USE struct net_base_ended_timer net_base_sending_end_expired(
 /** Returns whether the last recovery was for nothing, and ends it then: nothing that was found lost
  * is missing but what was sent again, and all that was sent again came twice (RFC 3708). Then the
  * congestion window may be what it was when the recovery began. Ask it after each acknowledgement,
- * an old one too. It is true once: not before another recovery begins.
+ * an old one too. It is true once: not before another recovery begins, or the timer ends. After
+ * `NET_BASE_EXPIRED_PROBE` it can be true though nothing was halved.
  *
  * It is refused if `end` isn't sound over `capacity` bytes: false, and nothing changes. */
 NET_BASE_MUST_USE bool net_base_sending_end_take_back(
@@ -1242,8 +1249,8 @@ NET_BASE_MUST_USE bool net_base_sending_end_take_back(
 
 /** Returns the segment that is to be sent now, and takes notice that it is: if the peer's window
  * and the congestion window have room for one, or as a probe. `congestion_window` is how many
- * bytes may be in flight. Less than a whole segment may be held back (RFC 9293, 3.8.6.2.1, and
- * Nagle's rule).
+ * bytes may be in flight, but one segment may be, however small it is. Less than a whole segment
+ * may be held back (RFC 9293, 3.8.6.2.1, and Nagle's rule).
  *
  * It is refused if `end` isn't sound over `capacity` bytes: `position` and `end` are 0, `is_again`
  * is false, the status is `NET_BASE_OUTGOING_REFUSED`, and nothing changes. */

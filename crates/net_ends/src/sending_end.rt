@@ -136,9 +136,10 @@ pub enum Expired {
         begins: bool,
     },
     /// The peer's window is shut, and the next segment is a probe of it; or nothing is in flight, and the next segment
-    /// has what was held back.
+    /// has what was held back. Halve nothing, and forget what an earlier halving would be undone to: `take_back` may be
+    /// true after this.
     Probe,
-    /// All that was sent is lost: let one segment be in flight.
+    /// All that was sent is lost: let one segment be in flight. `take_back` may undo that, as it does a halving.
     Lost,
 }
 
@@ -591,10 +592,11 @@ impl<S: Storage<u8>, const N: usize> SendingEndOver<S, N> {
     }
 
     /// Returns the segment that is to be sent now, and takes notice that it is: if the peer's window and the congestion
-    /// window have room for one, or as a probe. What was never sent is held back if it is less than a segment, unless
-    /// it is all that is left, or half of the greatest window that the peer announced (RFC 9293, 3.8.6.2.1), and
-    /// Nagle's rule doesn't have it wait. Once the timer has ended, the next segment isn't held back. While anything
-    /// that was written isn't acknowledged, the timer runs.
+    /// window have room for one, or as a probe. One segment may be in flight, however small the congestion window is.
+    /// What was never sent is held back if it is less than a segment, unless it is all that is left, or half of the
+    /// greatest window that the peer announced (RFC 9293, 3.8.6.2.1), and Nagle's rule doesn't have it wait. Once the
+    /// timer has ended, the next segment isn't held back. While anything that was written isn't acknowledged, the timer
+    /// runs.
     ///
     /// ```
     /// # use net_tcp::SendingEnd;
@@ -669,7 +671,7 @@ impl<S: Storage<u8>, const N: usize> SendingEndOver<S, N> {
     /// Returns whether the last recovery was for nothing, and ends it then: nothing that was found lost is missing but
     /// what was sent again, and all that was sent again came twice (RFC 3708). Then the congestion window may be what
     /// it was when the recovery began. Ask it after each acknowledgement, an old one too. It is true once: not before
-    /// another recovery begins.
+    /// another recovery begins, or the timer ends. After `Expired::Probe` it can be true though nothing was halved.
     ///
     /// ```
     /// # use net_tcp::{AckSegment, SendingEnd};

@@ -310,7 +310,9 @@ pub extern "C" fn net_base_receiving_end_is_sound(end: &ReceivingEnd, capacity: 
 }
 
 /// Begins again with a stream that begins at position `first`, and whose windows have this scale. `capacity` is how
-/// many bytes the storage has. Writes to `window` what a SYN announces, which has no scale, and returns true.
+/// many bytes the storage has. Writes to `window` what a SYN announces, which has no scale, and returns true. Pass the
+/// smallest scale for which `capacity >> scale` is at most 65535: a window is announced in whole units of `1 << scale`.
+/// One above 14 counts as 14.
 ///
 /// It is refused if `first` is `u64::MAX`: false, and nothing changes.
 #[unsafe(no_mangle)]

@@ -33,7 +33,8 @@ pub type AcknowledgedStatus = u32;
 /// What the timer's end means: `DONE`, `OVERDUE`, `PROBE`, `LOST` or `REFUSED`.
 ///
 /// - `DONE`: the timer hasn't ended, or a probe is due and the peer reports nothing, so that it couldn't answer.
-/// - `PROBE`: the next segment is a probe of a shut window, or, with nothing in flight, has what was held back.
+/// - `PROBE`: the next segment is a probe of a shut window, or, with nothing in flight, has what was held back. Halve
+///   nothing, and forget what an earlier halving would be undone to: `net_base_sending_end_take_back` may be true then.
 pub type ExpiredStatus = u32;
 
 /// Whether a segment is to be sent: `DONE`, `NOTHING` or `REFUSED`.
@@ -68,8 +69,9 @@ pub const NET_BASE_TAKE: Status = 6;
 /// keep-alive.
 pub const NET_BASE_ACKNOWLEDGEMENT_ONLY: Status = 7;
 
-/// Send an acknowledgement, and take nothing of a segment. If it has bytes, and no SYN or RST, pass these to
-/// `net_base_receiving_end_arrived` before that: it keeps none, but the answer then reports what came twice (RFC 2883).
+/// Send an acknowledgement, and take nothing of a segment. If it has neither SYN nor RST, and all its bytes are below
+/// the first missing number, pass these to `net_base_receiving_end_arrived` before that: it keeps none, but the answer
+/// then reports what came twice (RFC 2883).
 pub const NET_BASE_ANSWER: Status = 8;
 
 /// Take nothing of a segment, and send nothing.
@@ -78,14 +80,15 @@ pub const NET_BASE_IGNORE: Status = 9;
 /// The peer has reset the connection.
 pub const NET_BASE_RESET: Status = 10;
 
-/// No answer has come in time: find what is overdue, and send a probe if nothing of it may be sent.
+/// The next segment is a probe of a shut window, or, with nothing in flight, has what was held back.
 pub const NET_BASE_PROBE: Status = 11;
 
 /// No answer has come in time: what is overdue is lost, and if nothing of it may be sent, the next segment is a probe
 /// for an answer.
 pub const NET_BASE_OVERDUE: Status = 13;
 
-/// All that was sent is lost: let one segment be in flight.
+/// All that was sent is lost: let one segment be in flight. `net_base_sending_end_take_back` may undo that, as it does
+/// a halving.
 pub const NET_BASE_LOST: Status = 14;
 
 /// An old one: it says nothing but what came twice, if its first block does, and nothing else changes. Then

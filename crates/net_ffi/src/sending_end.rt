@@ -92,7 +92,7 @@ pub struct TakenAcknowledgement {
 pub struct EndedTimer {
     /// What it means.
     pub status: ExpiredStatus,
-    /// Whether it begins a recovery: then halve the congestion window.
+    /// Whether `NET_BASE_EXPIRED_OVERDUE` begins a recovery: then halve the congestion window. False at all others.
     pub begins: bool,
 }
 
@@ -625,7 +625,7 @@ pub extern "C" fn net_base_sending_end_expired(
 /// Returns whether the last recovery was for nothing, and ends it then: nothing that was found lost is missing but what
 /// was sent again, and all that was sent again came twice (RFC 3708). Then the congestion window may be what it was
 /// when the recovery began. Ask it after each acknowledgement, an old one too. It is true once: not before another
-/// recovery begins.
+/// recovery begins, or the timer ends. After `NET_BASE_EXPIRED_PROBE` it can be true though nothing was halved.
 ///
 /// It is refused if `end` isn't sound over `capacity` bytes: false, and nothing changes.
 #[unsafe(no_mangle)]
@@ -648,8 +648,8 @@ pub extern "C" fn net_base_sending_end_take_back(end: &mut SendingEnd, capacity:
 }
 
 /// Returns the segment that is to be sent now, and takes notice that it is: if the peer's window and the congestion
-/// window have room for one, or as a probe. `congestion_window` is how many bytes may be in flight. Less than a whole
-/// segment may be held back (RFC 9293, 3.8.6.2.1, and Nagle's rule).
+/// window have room for one, or as a probe. `congestion_window` is how many bytes may be in flight, but one segment may
+/// be, however small it is. Less than a whole segment may be held back (RFC 9293, 3.8.6.2.1, and Nagle's rule).
 ///
 /// It is refused if `end` isn't sound over `capacity` bytes: `position` and `end` are 0, `is_again` is false, the
 /// status is `NET_BASE_REFUSED`, and nothing changes.

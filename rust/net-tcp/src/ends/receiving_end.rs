@@ -339,7 +339,8 @@ impl<S: Storage<u8>, const N: usize> ReceivingEndOver<S, N> {
     }
 
     /// Begins again with a stream that begins at position `first`, and whose windows have this scale. Returns the
-    /// window that a SYN announces, which has no scale.
+    /// window that a SYN announces, which has no scale. Pass the smallest scale for which `capacity >> scale` is at
+    /// most 65535: a window is announced in whole units of `1 << scale`. One above 14 counts as 14.
     ///
     /// # Panics
     ///
@@ -452,8 +453,8 @@ impl<S: Storage<u8>, const N: usize> ReceivingEndOver<S, N> {
     }
 
     /// Returns whether an acknowledgement is to be sent before the program waits: something came, or an update of the
-    /// window is worth a segment. No update is, once all bytes and the end have arrived: nothing follows that needs room, and
-    /// a peer that has closed its connection would answer it by a reset.
+    /// window is worth a segment. No update is, once all bytes and the end have arrived: nothing follows that needs
+    /// room, and a peer that has closed its connection would answer it by a reset.
     ///
     /// ```
     /// # use net_tcp::ReceivingEnd;
