@@ -1,15 +1,13 @@
 -- A text that is written in parts, and read in parts.
-use Rattle.std.proofs.Common.{◌≡◌, ◌∙◌, sym, ap, subst, cond, ℕ, ◌+◌, ◌-◌, ◌≤◌, List, ◌++◌, length, take, drop}
+use Rattle.std.proofs.Common.{◌≡◌, ◌∙◌, sym, ap, subst, ℕ, ◌+◌, ◌-◌, ◌≤◌, List, ◌++◌, length, take, drop}
 use Rattle.std.proofs.Common.{arith, take-add, length-take}
-use Rattle.std.specs.Prelude.{slice_range, IsFalse, min}
-use Rattle.std.proofs.lemmas.List.{take-append-le, take_at, drop-drop}
+use Rattle.std.specs.Prelude.{slice_range, min}
+use Rattle.std.proofs.lemmas.List.{take-append-le, take_at}
 use Rattle.std.proofs.lemmas.Slice.{between_to_end}
 use Rattle.std.proofs.Math.Seq.{take-append-add}
 use borrow.Rule.Slice.PartMut.{put_mid, post_of}
 use Rattle.net_receiver.specs.SenderState.{Sends}
-use Rattle.net_receiver.specs.FiniteSender.{FiniteSenderState, first_number}
-use Rattle.net_receiver.specs.Finite.{FiniteState, acknowledged, is_complete}
-use Rattle.net_receiver.specs.ReceiverState.{next_position}
+use Rattle.net_receiver.specs.FiniteSender.{FiniteSenderState}
 use Rattle.net_ends_tests.specs.Path.{IsSending}
 
 -- n more bytes were written
@@ -44,20 +42,3 @@ pub read_is : (q old new : List ℕ) (n r : ℕ) → new ≡ take n q ++ drop (l
     take r new ≡ take n q
 read_is q old new n r is count =
     ap (take r) is ∙ take_at (take n q) (drop (length q) old) r (omega (arith, count, length-take n q))
-
--- what has left the sender has arrived
-pub left_below : (s : FiniteSenderState) (r : FiniteState) → first_number s ≤ acknowledged r → IsFalse (is_complete r) →
-    s.sender.first_unacknowledged ≤ next_position r.receiver
-left_below s r kept more =
-    let is : acknowledged r ≡ next_position r.receiver =
-    ap (λ b. cond b (r.end + 1) (next_position r.receiver)) more in omega arith
-
-pub has_left : (text : List ℕ) (n : ℕ) (s : FiniteSenderState) (r : FiniteState) (p : ℕ) → IsSending text n s →
-    first_number s ≤ acknowledged r →
-    IsFalse (is_complete r) → p ≡ next_position r.receiver →
-    drop (p - s.sender.first_unacknowledged) s.sender.queue ≡ drop (next_position r.receiver) (take n text)
-has_left text n s r p is kept more at =
-    let low = left_below s r kept more in
-    let first = s.sender.first_unacknowledged in
-    ap (drop (p - first)) is.sends.queue ∙ drop-drop (p - first) (first - 0) (take n text)
-    ∙ ap (λ k. drop k (take n text)) (omega arith)
