@@ -122,6 +122,7 @@ def counted():
     planted = plants.SECTIONS.copy()
     yield "each of {} weakened scripts", "tools/parts/plants.txt", [str(len(planted.pop(("weakened",))))]
     yield "Each of {} faults", "tools/parts/plants.txt", [str(sum(map(len, planted.values())))]
+    yield "has {} patterns of", left, [WORDS[first(r"^== alone\n(.*?)\n\n", left).count("\n") + 1]]
     yield "those of {} others are", "tools/guards.py", [WORDS[len([*guards.guarded()])]]
     yield "[{} functions](std-calls.md)", "docs/std-calls.md", [
         str(sum(len(re.findall(r"`\w+`", names)) for names in re.findall(
