@@ -2,7 +2,7 @@
 /** @file
  * net-base 0.6.0-dev.
  *
- * In net_bound.h these calls are with the memory of each head. Begin there.
+ * net_bound.h wraps these calls and remembers your buffers: include that.
  *
  * What for, and which calls
  *
@@ -28,60 +28,78 @@
  *   bits, which don't: position.
  *
  * Functions for C over memory that the caller keeps. There is no heap and no global state. Each
- * export calls a function of a library here, and tests what that function needs, but for the duties
+ * export calls a function of a library here. It tests what that function needs, but for the duties
  * below.
  *
  * Memory
  *
- * A head is a struct of numbers, which the caller keeps beside a storage and, for some heads, runs
- * or slots. A call whose name ends in `_init` makes it; one of zeros is new too, as the comment of
- * its kind says. Storage, runs and slots need no particular values. Lengths are in elements; a
- * length of 0 is allowed, of runs too: then no run is held. A length, an index or a count is a
- * `size_t`, a position or a time a `uint64_t` or an `int64_t` on every processor. A time is in
- * microseconds. A flag of a slot is as wide as the number beside it; others are a `bool`.
+ * - A *head* is a struct of numbers. You keep it beside its memory: a *storage*, which has the
+ *   bytes, and for some heads an array of runs or of slots. Its `.._init` makes it; one of zeros is
+ *   new too, as the comment of the struct says.
+ * - A *run* is a range of positions that is stored in one element of such an array. In a receiver
+ *   it is a *waiting range*: bytes that have arrived, but wait for earlier ones. It is *held* as
+ *   long as they wait.
+ * - A *position* is the number of a byte in a stream, with 64 bits, so that it never wraps. The end
+ *   of a stream has one too, after the last byte.
+ * - A *place* is a ring's head: where a queue is in its storage.
  *
- * Fields of a head may be read: `length` is how many elements are queued, `used` how many runs are
- * stored. `start` and `end` of a stored run are offsets from `first_start` of the head, so the
- * first one starts at 0. A block has positions of the stream.
+ * Lengths are in elements. A length of 0 is allowed: without runs no range may wait. A length, an
+ * index or a count is a `size_t` on every processor, a position is a `uint64_t`, and a moment an
+ * `int64_t`. Times are in microseconds. A flag of a slot is as wide as the number beside it; others
+ * are a `bool`.
+ *
+ * You may read the fields of a head: `length` is how many elements are queued, and `used` how many
+ * runs are stored. `start` and `end` of a stored run are offsets from `first_start` of the head, so
+ * the first run starts at 0. A block of an acknowledgement has positions of the stream.
  *
  * Duties
  *
- * Only a build with the feature `check` tests some of these. A call that breaks one of the first
- * four can touch any memory. The others are about answers, and the proofs assume them: a call that
- * breaks one touches no other memory than it was passed, but may answer anything, or trap.
+ * Calls don't test these, but for some in a build with the feature `check`. A call that breaks one
+ * of the first four can touch any memory. The others are about answers, and the proofs assume them:
+ * a call that breaks one touches no other memory than it was passed, but it may answer anything, or
+ * trap.
  *
- * 1. A pointer that isn't null is aligned and valid. That of a slice, such as `data`, is valid for
+ * 1. A pointer that isn't null is aligned and valid. That of an array, such as `data`, is valid for
  *    as many elements as the parameter after it says, here `data_length`, which have at most
  *    `PTRDIFF_MAX` bytes together. Any other is valid for one value. If the length is 0, the
- *    pointer may be any. A `bool` outside of a struct is 0 or 1. If program and library are
- *    optimized together when they are linked (LTO), the program first writes what it passes, with
- *    any values.
+ *    pointer may be any. A `bool` outside of a struct is 0 or 1. What is read has values; memory
+ *    that a call writes first needs none: a head at its `.._init`, a storage, runs and slots,
+ *    `into` of a read, and results such as `counts`. Only if the linker optimizes C and Rust
+ *    together (LTO of both), give these any values too, since Rust wants values behind a reference.
  * 2. What a call may write overlaps nothing else that it is passed.
- * 3. Two calls that share memory aren't made at once, in threads or in an interrupt and what it
- *    interrupts, unless both take it by `const`. So mask the interrupt around each call and what
- *    copies its elements, and around what reads fields.
- * 4. There is stack enough for a call.
+ * 3. Two calls that share memory aren't made at once, by threads or by an interrupt and what it
+ *    interrupts, unless both take it by `const`. So mask the interrupt around each call, and around
+ *    what reads fields. Bytes that you copy yourself need no mask, if one side alone writes and one
+ *    alone reads: see `struct net_base_ring`.
+ * 4. There is enough stack for a call.
  * 5. A storage, its runs and its slots have the same lengths in each call on a head.
  * 6. A head, its runs and its slots are written by calls of its own kind alone. For a finite
  *    receiver these are `net_base_finite_receiver_..`, and its `place` isn't written by
- *    `net_base_ring_..`. The caller may set a head to zeros.
- * 7. Where a comment says `Requires`, head and runs are sound, as a call whose name ends in
- *    `_is_sound` tests. What calls of its own kind wrote, from a new head on, is sound.
+ *    `net_base_ring_..`. You may set a head to zeros.
+ * 7. A head is made by its `.._init`, or of zeros, before another call is passed it. With duties 5
+ *    and 6 it then is *sound*: head and runs are such as calls of its kind leave. A comment that
+ *    says `Requires` needs that, and a call whose name ends in `_is_sound` tests it, for a head
+ *    that anything else may have written.
  *
  * Refusals
  *
- * All else that a call needs is tested. Nonsense in arguments, as a null pointer but to a slice of
- * length 0, or to a struct whose `bool` is neither 0 nor 1, is refused before anything else. A
- * refused call changes nothing. It returns `false` where it returns a `bool`, and one whose comment
- * names no answer returns `true` where it is done; where it returns one of these alone or as the
- * first field of a struct, the `NET_BASE_.._REFUSED` of a status, `NET_BASE_NONE` of a `size_t`,
- * `UINT64_MAX` of a `uint64_t`; and 0 of another number, which is refused for these alone. A test
- * whose failure makes a packet unsafe returns `true`, as its comment says. `NET_BASE_.._REFUSED`
- * always means a refusal; the others can also be results of calls that are done.
+ * All else that a call needs, it tests. A call *is refused* if an argument is nonsense: a null
+ * pointer, but to an array of length 0; a struct with a `bool` that is neither 0 nor 1; or what the
+ * comment of the call names. A refused call changes nothing, and returns by its type:
  *
- * A `bool` answers a question, or that a call was done. A status says what became of a call that
- * can end in more ways: what is done is 0, as in other libraries of C. Only what to do with a
- * segment that arrives has no answer of that kind.
+ * - `bool`: `false`, but `net_base_fragments_differs`: `true`, as of a packet that isn't to be
+ *   trusted
+ * - a status: its `NET_BASE_.._REFUSED`, which is never returned for anything else
+ * - `size_t`: `NET_BASE_NONE`
+ * - `uint64_t`: `UINT64_MAX`
+ * - `uint16_t`: 0, and only for such a pointer or `bool`
+ * - a struct: the same in its first field, and in the others what the comment of the call says
+ * - `void`: nothing
+ *
+ * `false`, `NET_BASE_NONE` and 0 can also be the result of a call that is done. A call that returns
+ * a `bool`, and whose comment asks no question, returns `true` if it is done. A status is 0 if the
+ * call is done, as in other libraries of C; only `enum net_base_arrival_status`, which says what to
+ * do with a segment, has no 0.
  *
  * What C writes itself
  *
@@ -94,24 +112,23 @@
  *   `(int32_t)(later - number) > 0`
  * - the bytes of a span: `contiguous` from `from` on, and the rest from 0 on. `if (!ring.length)
  *   net_base_ring_init(&ring)` has all free elements contiguous
- * - held run k, of `held.used`: it begins `held.first_start + runs[k].start` above the first
+ * - waiting range k, of `held.used`: it begins `held.first_start + runs[k].start` above the first
  *   missing position
  * - the window of a header: `(uint64_t)window << scale`, and of a SYN without `scale`, which is at
  *   most 14; the smallest one for a storage: `while (capacity >> scale > 65535 && scale < 14)
  *   scale++`
- * - room to write in a sending end that isn't closed: the capacity less
- *   `sender.sender.place.length`
  * - the payload of each fragment but the last: `(mtu - header) & ~7`; whether a packet has waited
  *   too long: `fragments.expires_at < now`; whether a sum with its checksum is right:
  *   `net_base_parts_sum_checksum` is 0
  *
  * Traps
  *
- * A call that keeps its duties doesn't panic. Where one that breaks duty 5, 6 or 7 would, the
- * program stops: at `ud2` on x86 (exception 6), `udf` on ARM (the UsageFault of a Cortex-M, the
- * HardFault where that isn't enabled and on M0, else an undefined instruction), `unimp` on RISC-V
- * (exception 2), elsewhere in an endless loop. Under Linux that is SIGILL. The library prints
- * nothing, and has no symbol to hook. A sum that doesn't fit wraps.
+ * If you keep the duties, no call panics. If a call that breaks duty 5, 6 or 7 would, the program
+ * stops: at `ud2` on x86 (exception 6), `udf` on ARM (the UsageFault of a Cortex-M, the HardFault
+ * where that isn't enabled and on M0, else an undefined instruction), `unimp` on RISC-V (exception
+ * 2), elsewhere in an endless loop. Under Linux that is SIGILL. The library prints nothing, and has
+ * no symbol to hook. While the duties are kept, each sum is proved to fit its type; otherwise one
+ * may wrap.
  */
 #ifndef NET_BASE_H
 #define NET_BASE_H
@@ -253,7 +270,7 @@ extern "C" {
 /** What became of a fragment: `DONE`, `TOO_MANY_RUNS`, `TOO_LONG`, `OTHER_SIZE` or `REFUSED`. */
 enum NET_BASE_32_BITS net_base_fragment_status {
     NET_BASE_FRAGMENT_DONE = 0, /**< The call was done. */
-    /** There would be more runs than the slice has elements. Nothing changes. */
+    /** There would be more runs than the array has elements. Nothing changes. */
     NET_BASE_FRAGMENT_TOO_MANY_RUNS = 1,
     /** The fragment or the size reaches past the end of the buffer. Nothing changes. */
     NET_BASE_FRAGMENT_TOO_LONG = 3,
@@ -279,7 +296,8 @@ enum NET_BASE_32_BITS net_base_size_status {
 /** What became of a segment: `DONE`, `TOO_MANY_RUNS`, `OTHER_END` or `REFUSED`. */
 enum NET_BASE_32_BITS net_base_segment_status {
     NET_BASE_SEGMENT_DONE = 0, /**< The call was done. */
-    /** There would be more runs than there is room for. Nothing of it is kept. */
+    /** More ranges would wait than there is room for. Nothing of it is kept: the peer has to send
+     * it again. */
     NET_BASE_SEGMENT_TOO_MANY_RUNS = 1,
     NET_BASE_SEGMENT_OTHER_END = 5, /**< The stream can't end there. Nothing of it is kept. */
     NET_BASE_SEGMENT_REFUSED = 2, /**< What was passed is nonsense. Nothing changes. */
@@ -291,14 +309,14 @@ enum NET_BASE_32_BITS net_base_segment_status {
 enum NET_BASE_32_BITS net_base_arrival_status {
     /** Take what a segment acknowledges, its window, its bytes and its end. */
     NET_BASE_ARRIVAL_TAKE = 6,
-    /** Take what a segment acknowledges and its window, but not its bytes, and answer it: the own
+    /** Take what a segment acknowledges and its window, but not its bytes, and answer it: your
      * window is shut, and the peer asks whether it has opened; or the segment is empty and below
      * the window, as an old acknowledgement or a keep-alive. */
     NET_BASE_ARRIVAL_ACKNOWLEDGEMENT_ONLY = 7,
     /** Send an acknowledgement, and take nothing of a segment. If it has neither SYN nor RST, and
-     * all its bytes are below the first missing number, pass these to
-     * `net_base_receiving_end_arrived` before that: it keeps none, but the answer then reports
-     * what came twice (RFC 2883). */
+     * all its bytes are below the first missing position, also pass these to
+     * `net_base_receiving_end_arrived`, before or after `net_base_receiving_end_answer`: it keeps
+     * none, but the acknowledgement that follows reports what came twice (RFC 2883). */
     NET_BASE_ARRIVAL_ANSWER = 8,
     NET_BASE_ARRIVAL_IGNORE = 9, /**< Take nothing of a segment, and send nothing. */
     NET_BASE_ARRIVAL_RESET = 10, /**< The peer has reset the connection. */
@@ -309,9 +327,9 @@ enum NET_BASE_32_BITS net_base_arrival_status {
 /** What became of an acknowledgement: `DONE`, `OLD`, `ANSWER` or `REFUSED`. */
 enum NET_BASE_32_BITS net_base_acknowledged_status {
     NET_BASE_ACKNOWLEDGED_DONE = 0, /**< It was taken. */
-    /** An old one: it says nothing but what came twice, if its first block does, and nothing else
-     * changes. Then `net_base_sending_end_take_back` may be true. The bytes of its segment may be
-     * new. */
+    /** An old acknowledgement: of it only a first block that says what came twice counts, and
+     * nothing else changes. Then `net_base_sending_end_take_back` may be true. The bytes of its
+     * segment may be new. */
     NET_BASE_ACKNOWLEDGED_OLD = 15,
     /** No peer sends it. Answer its segment, and take nothing of that (RFC 5961, section 5).
      * Nothing changes. */
@@ -325,11 +343,12 @@ enum NET_BASE_32_BITS net_base_expired_status {
     /** The timer hasn't ended, or a probe is due and the peer reports nothing, so that it couldn't
      * answer. */
     NET_BASE_EXPIRED_DONE = 0,
-    /** No answer has come in time: what is overdue is lost, and if nothing of it may be sent, the
-     * next segment is a probe for an answer. */
+    /** No answer has come in time. What is late counts as lost, and
+     * `net_base_sending_end_next_segment` sends it again. If it has none to send, it sends a
+     * probe, which asks for an answer. */
     NET_BASE_EXPIRED_OVERDUE = 13,
     /** The next segment is a probe of a shut window, or, with nothing in flight, has what was held
-     * back. Halve */
+     * back. That is no sign of congestion: leave the congestion window as it is. */
     NET_BASE_EXPIRED_PROBE = 11,
     /** All that was sent is lost: let one segment be in flight. `net_base_sending_end_take_back`
      * may undo that, as it does a halving. */
@@ -362,14 +381,18 @@ enum NET_BASE_32_BITS net_base_outgoing_status {
  * A head of zeros is new. If the elements aren't bytes, pass only the capacity: the call returns
  * indices, and you copy.
  *
- * What is lent so, to DMA too, stays where it is. Queued elements stay until they are dequeued or
- * dropped, whatever is enqueued. Free ones stay until they are enqueued, whatever is dequeued; but
- * `enqueue_slice` uses them, and moves them to the storage's beginning where the queue is empty.
- * So while DMA writes free elements, don't call it, and `enqueue` what DMA has written.
+ * The elements that a call found stay where they are. Queued ones do until they are dequeued,
+ * whatever is enqueued. Free ones do until they are enqueued, whatever is dequeued; but
+ * `enqueue_slice` writes free elements, and if the queue is empty it moves them to the storage's
+ * beginning. So to fill the storage by DMA, ask `unallocated`, start the DMA there, and `enqueue`
+ * as many elements once it has ended. Until then call neither `enqueue_slice` nor `init`; all
+ * others may be called. No interrupt need be masked while the DMA runs, only around each call. The
+ * same is true of elements that you copy yourself. One writer fills at a time, since `unallocated`
+ * finds the same elements until they are enqueued.
  *
- * A head that doesn't fit the capacity is refused. An empty queue may begin at any index;
+ * A call is refused if the head doesn't fit the capacity. An empty queue may begin at any index;
  * `read_at` is 0 if the capacity is. A call that takes the last element off leaves `read_at` after
- * it, and doesn't rewind. In a span of no elements `from` is where the first would be. */
+ * it, and doesn't go back to 0. In a span of no elements `from` is where the first would be. */
 struct net_base_ring {
     size_t read_at; /**< The index of the first element of the queue, 0 if the storage is empty. */
     size_t length; /**< How many elements are queued. */
@@ -383,7 +406,7 @@ struct net_base_span {
     size_t contiguous; /**< How many of them are contiguous, from the first one on. */
 };
 
-/** Makes `ring` the head of an empty ring, which is sound for each storage. */
+/** Makes `ring` the head of an empty ring, for a storage of any length. */
 void net_base_ring_init(struct net_base_ring *ring) NET_BASE_LINK(ring_init);
 
 /** Returns where at most `size` free elements are, from the one at `offset` on; none if `offset` is
@@ -404,7 +427,7 @@ NET_BASE_MUST_USE struct net_base_span net_base_ring_allocated(
     const struct net_base_ring *ring, size_t capacity, size_t offset, size_t size)
     NET_BASE_LINK(ring_allocated);
 
-/** Enqueues `count` elements, with what the storage has there.
+/** Enqueues `count` elements that you have written to the storage before.
  *
  * It is refused if `ring` isn't the head of a ring of `capacity` elements, or if fewer than
  * `count` elements are free: false, and nothing changes. */
@@ -449,9 +472,10 @@ NET_BASE_MUST_USE size_t net_base_ring_dequeue_slice(
 /** The head of a packet queue: the heads of its two rings.
  *
  * A head of zeros is new. A packet's bytes are contiguous. If it doesn't fit before the storage's
- * end, it is placed at its beginning, and the bytes before the end are a gap. A packet uses one
- * slot, and a gap before it one more. The slots, which calls write, are beside what the program
- * has for each packet. What is refused changes nothing. */
+ * end, it is placed at its beginning, and the bytes before the end are a *gap*. A packet uses one
+ * slot, and a gap before it one more: have a slot more than packets. Calls write the slots. What
+ * you know of a packet besides, such as its address, keep in an array of your own, of as many
+ * elements as there are slots, at the index `slot` that the call returned. */
 struct net_base_packets {
     struct net_base_ring slots; /**< The head of the ring of slots. */
     struct net_base_ring bytes; /**< The head of the ring of bytes. */
@@ -511,7 +535,7 @@ NET_BASE_MUST_USE struct net_base_packet_place net_base_packets_enqueue(
  * another packet is placed there.
  *
  * If there is none, `gap` and `size` are 0, the others `NET_BASE_NONE`. A head or a first slot
- * that isn't one of calls of this kind is refused: then `gap` is `NET_BASE_NONE` too. In both
+ * that calls of this kind didn't write is refused: then `gap` is `NET_BASE_NONE` too. In both
  * cases nothing changes. */
 NET_BASE_MUST_USE struct net_base_first_packet net_base_packets_dequeue(
     struct net_base_packets *NET_BASE_RESTRICT packets,
@@ -538,8 +562,7 @@ NET_BASE_MUST_USE struct net_base_first_packet net_base_packets_peek(
  */
 struct net_base_assembler {
     size_t used; /**< How many runs are stored. */
-    /** The position at which the first run starts. Where there is none it has no meaning, and is 0
-     * if the head is canonical. */
+    /** The position at which the first run starts. Where there is none it has no meaning. */
     size_t first_start;
 };
 
@@ -547,7 +570,7 @@ struct net_base_assembler {
  *
  * A head of zeros is that of an empty buffer, whose packet is waited for up to moment 0. The
  * longest packet has as many bytes as the storage. Fragments may overlap: at each position the
- * byte is that of the last fragment there. `present` is an assembler. */
+ * byte is that of the last fragment there. `present` has the runs of what has arrived. */
 struct net_base_fragments {
     struct net_base_assembler present; /**< The positions that arrived: the head of an assembler. */
     bool has_total; /**< Whether the packet's size is known. */
@@ -563,13 +586,13 @@ struct net_base_run {
 };
 
 /** Makes `fragments` the head of an empty buffer, whose packet is waited for up to `expires_at`, in
- * microseconds. It is sound for any memory. */
+ * microseconds. Storage and runs may have any values. */
 void net_base_fragments_init(
     struct net_base_fragments *fragments, int64_t expires_at) NET_BASE_LINK(fragments_init);
 
-/** Returns whether head and runs are those of a buffer of `capacity` bytes, for any numbers:
- * `present` and the runs are those of an assembler, which end at `capacity` or below, and at a
- * known size or below, which is at most `capacity`. It looks at each used run. */
+/** Returns whether head and runs are sound over a storage of `capacity` bytes, whatever numbers
+ * they have: the runs rise without touching, end at `capacity` or below, and at a known size or
+ * below, which is at most `capacity`. It looks at each used run. */
 NET_BASE_MUST_USE bool net_base_fragments_is_sound(
     const struct net_base_fragments *fragments, size_t capacity, const struct net_base_run *runs,
     size_t runs_length) NET_BASE_LINK(fragments_is_sound);
@@ -657,31 +680,37 @@ uint16_t net_base_parts_sum_checksum(
  * acknowledged, as QUIC has
  *
  * A stream's receiver alone, for other rules of what is acknowledged, as QUIC has. The stream of
- * bytes ends or not. The end is the position after the last byte. It has a number, as TCP's FIN
- * has, and needs no room. It is known once a segment has said so; a stream whose segments never
- * say so doesn't end.
+ * bytes ends or not. The end is the position after the last byte. It takes a position, as TCP's
+ * FIN does, but no room. It is known once a segment has said so; a stream whose segments never say
+ * so doesn't end.
  *
  * @{ */
 
-/** What a receiver has besides its storage and its held runs: numbers. */
+/** What a receiver has besides its storage and its waiting ranges: numbers. */
 struct net_base_receiver {
     uint64_t first; /**< The position of the stream's first byte. */
     uint64_t count_read; /**< How many bytes were read. */
     struct net_base_ring place; /**< Where the queue is in the storage. */
-    /** What the held runs are counted from, and how many there are. */
+    /** What the waiting ranges are counted from, and how many there are. */
     struct net_base_assembler held;
 };
 
-/** What a receiver of a stream that ends has besides its storage and its held runs: numbers.
+/** What a receiver of a stream that ends has besides its storage and its waiting ranges: numbers.
  *
- * A head of zeros is new, of a stream that begins at position 0. The queue is the ring of
- * `receiver.place`, at which `net_base_ring_allocated` looks; the rest of the storage is free. The
- * first missing position is `receiver.first`, plus the bytes read, plus those queued. Held run k,
- * of `receiver.held.used`, is from that position plus `receiver.held.first_start` plus
- * `runs[k].start` on, and its end likewise.
+ * A head of zeros is new, of a stream that begins at position 0.
+ * `net_base_finite_receiver_segment` takes what arrives, and `net_base_finite_receiver_read`
+ * copies what is in order. To read in place, pass `receiver.place` to `net_base_ring_allocated`,
+ * which says where the queue is, and then take the bytes off by `net_base_finite_receiver_remove`.
+ * `net_base_finite_receiver_acknowledged` says up to where all has arrived, and
+ * `net_base_finite_receiver_has_read_all` that the stream has ended and all of it was read.
+ *
+ * The first missing position is `receiver.first`, plus the bytes read, plus those queued. Waiting
+ * range k, of `receiver.held.used`, is from that position plus `receiver.held.first_start` plus
+ * `runs[k].start` on, and its end likewise. The rest of the storage is free, and waiting ranges
+ * are kept in it.
  *
  * An end in order is never refused: that of a last segment which begins at or below the first
- * missing position and ends at or above it. What was held beyond it, and an end that was known, go
+ * missing position and ends at or above it. What waited beyond it, and an end that was known, go
  * then. An end beyond the free window isn't taken. */
 struct net_base_finite_receiver {
     struct net_base_receiver receiver; /**< The receiver of the bytes. */
@@ -701,21 +730,21 @@ struct net_base_kept_counts {
 };
 
 /** Makes `receiver` the head of a receiver of a stream that begins at position `first`; nothing has
- * arrived. It is sound with every storage and all runs.
+ * arrived. Storage and runs may have any values.
  *
  * It is refused if `first` is `UINT64_MAX`: false, and nothing changes. */
 NET_BASE_MUST_USE bool net_base_finite_receiver_init(
     struct net_base_finite_receiver *receiver, uint64_t first) NET_BASE_LINK(finite_receiver_init);
 
 /** Returns whether this head, a storage of `capacity` bytes and runs are sound: they are those of a
- * receiver, and the position after its last byte, held ones too, is at most the end, if that is
- * known, and below 2^64 - 1. It looks at each held run, and at no byte. */
+ * receiver, and the position after its last byte, also of those that wait, is at most the end, if
+ * that is known, and below 2^64 - 1. It looks at each used run, and at no byte. */
 NET_BASE_MUST_USE bool net_base_finite_receiver_is_sound(
     const struct net_base_finite_receiver *receiver, size_t capacity,
     const struct net_base_run *runs, size_t runs_length) NET_BASE_LINK(finite_receiver_is_sound);
 
 /** Returns whether the stream can end at `position`: it is the end that is known, or none is, and
- * it isn't below the first missing position or a held run's end. 2^64 - 1 is no end.
+ * it isn't below the first missing position or the end of a waiting range. 2^64 - 1 is no end.
  *
  * It is refused if the first missing position doesn't fit 64 bits, or `held.used` is above
  * `runs_length`: false. Requires: head and runs are sound, as `net_base_finite_receiver_is_sound`
@@ -725,9 +754,9 @@ NET_BASE_MUST_USE bool net_base_finite_receiver_can_end(
     size_t runs_length, uint64_t position) NET_BASE_LINK(finite_receiver_can_end);
 
 /** Writes to `number` the number that an acknowledgement carries: the first missing position, or,
- * once all bytes and the end have arrived, the end plus 1, since the end has a number.
+ * once all bytes and the end have arrived, the end plus 1, since the end takes a position.
  *
- * It is refused if the number after the first missing position doesn't fit 64 bits: false, and
+ * It is refused if the position after the first missing one doesn't fit 64 bits: false, and
  * nothing changes. */
 NET_BASE_MUST_USE bool net_base_finite_receiver_acknowledged(
     const struct net_base_finite_receiver *NET_BASE_RESTRICT receiver,
@@ -735,12 +764,13 @@ NET_BASE_MUST_USE bool net_base_finite_receiver_acknowledged(
 
 /** Returns whether all bytes were read, up to the end. Once it is so it stays so.
  *
- * It is refused if the number after the first missing position doesn't fit 64 bits: false. */
+ * It is refused if the position after the first missing one doesn't fit 64 bits: false. */
 NET_BASE_MUST_USE bool net_base_finite_receiver_has_read_all(
     const struct net_base_finite_receiver *receiver) NET_BASE_LINK(finite_receiver_has_read_all);
 
-/** Moves bytes from the head of the queue to the beginning of `into`, and returns how many: as many
- * as are queued and as `into` has room for. The rest of `into` stays as it is.
+/** Copies bytes from the beginning of the queue to that of `into`, takes them off the queue, and
+ * returns how many: as many as are queued and as `into` has room for. The rest of `into` stays as
+ * it is.
  *
  * It is refused if `receiver.receiver.place` isn't that of a ring of `storage_length` elements, or
  * if the first missing position doesn't fit 64 bits: `NET_BASE_NONE`, and nothing changes. */
@@ -749,8 +779,8 @@ NET_BASE_MUST_USE size_t net_base_finite_receiver_read(
     const uint8_t *NET_BASE_RESTRICT storage, size_t storage_length,
     uint8_t *NET_BASE_RESTRICT into, size_t into_length) NET_BASE_LINK(finite_receiver_read);
 
-/** Removes the first `count` bytes of the queue, as `net_base_finite_receiver_read` does, and
- * copies none. `capacity` is how many bytes the storage has.
+/** Takes the first `count` bytes off the queue, as `net_base_finite_receiver_read` does, and copies
+ * none: they were read in place. `capacity` is how many bytes the storage has.
  *
  * It is refused if `receiver.receiver.place` isn't that of a ring of `capacity` elements, or if
  * fewer than `count` elements are queued, or if the first missing position doesn't fit 64 bits:
@@ -762,9 +792,9 @@ NET_BASE_MUST_USE bool net_base_finite_receiver_remove(
 /** Keeps the bytes of a segment, the first at `position`, that are in the free window and below the
  * end, and writes to `counts` how many. If it `is_last`, the stream ends after it.
  * `NET_BASE_SEGMENT_OTHER_END` if it can't end there, else `NET_BASE_SEGMENT_TOO_MANY_RUNS` if it
- * lacks the next missing byte and would make a run too many. It is refused if the head isn't one
- * over such storage and runs: `NET_BASE_SEGMENT_REFUSED`. In these three cases nothing changes.
- * Requires: head and runs are sound, as `net_base_finite_receiver_is_sound` tests. */
+ * lacks the next missing byte and would make one waiting range too many. It is refused if the head
+ * isn't one over such storage and runs: `NET_BASE_SEGMENT_REFUSED`. In these three cases nothing
+ * changes. Requires: head and runs are sound, as `net_base_finite_receiver_is_sound` tests. */
 NET_BASE_MUST_USE enum net_base_segment_status net_base_finite_receiver_segment(
     struct net_base_finite_receiver *NET_BASE_RESTRICT receiver, uint8_t *NET_BASE_RESTRICT storage,
     size_t storage_length, struct net_base_run *NET_BASE_RESTRICT runs, size_t runs_length,
@@ -775,8 +805,8 @@ NET_BASE_MUST_USE enum net_base_segment_status net_base_finite_receiver_segment(
  * `capacity` bytes, and returns true. It is never below what
  * `net_base_finite_receiver_acknowledged` writes.
  *
- * It is refused if more than `capacity` bytes are queued, or if that end or the number after the
- * first missing position doesn't fit 64 bits: false, and nothing changes. */
+ * It is refused if more than `capacity` bytes are queued, or if that end or the position after the
+ * first missing one doesn't fit 64 bits: false, and nothing changes. */
 NET_BASE_MUST_USE bool net_base_finite_receiver_window_end(
     const struct net_base_finite_receiver *NET_BASE_RESTRICT receiver, size_t capacity,
     uint64_t *NET_BASE_RESTRICT end) NET_BASE_LINK(finite_receiver_window_end);
@@ -786,7 +816,28 @@ NET_BASE_MUST_USE bool net_base_finite_receiver_window_end(
 /** @defgroup net_base_receiving_end The receiving end of a stream as one machine
  *
  * The receiving end of a stream as one machine: a receiver of a stream that ends, the window that
- * it announces, when it acknowledges, and what an acknowledgement lists.
+ * it announces, when it acknowledges, and what an acknowledgement lists. A connection of TCP has
+ * one of these, one `struct net_base_sending_end` and one `struct net_base_answer_limit`. In the
+ * order of a connection:
+ * - Both directions have a *first position*, which `.._init` and `.._open` are passed: that of the
+ *   first byte after the SYN. The SYN has the position before it, and the FIN the one after the
+ *   last byte.
+ * - Before the peer's SYN has come (SYN-SENT), don't ask `net_base_receiving_end_classify`: a
+ *   segment acknowledges your SYN if its acknowledgement number is that of your first position.
+ * - After the peer's SYN, your SYN is acknowledged once `net_base_sending_end_acknowledged` has
+ *   the status `NET_BASE_ACKNOWLEDGED_DONE`. At another status before that, send a RST with that
+ *   acknowledgement's number, and take nothing of the segment (RFC 9293, 3.10.7.4).
+ * - A segment whose bytes are in several buffers is classified once, and then passed to
+ *   `net_base_receiving_end_arrived` piece by piece. Each piece counts as a segment, so the second
+ *   one makes an acknowledgement due.
+ * - If `net_base_receiving_end_arrived` returns `NET_BASE_SEGMENT_TOO_MANY_RUNS` or
+ *   `NET_BASE_SEGMENT_OTHER_END`, go on: nothing of the segment was kept, and an acknowledgement
+ *   is due, by which the peer knows what to send again.
+ * - The peer's FIN may arrive before bytes that are missing. All has come up to it once
+ *   `net_bound_receiving_end_is_complete` is true: then `receiver.after_end` isn't 0, and
+ *   `net_base_finite_receiver_acknowledged` writes the same.
+ * - No call gives up. How long nothing may be acknowledged until you do is yours to count: 100
+ *   seconds at least, and 3 minutes for a SYN (RFC 9293, 3.8.3).
  *
  * @{ */
 
@@ -795,19 +846,19 @@ struct net_base_advertised_window {
     uint64_t edge; /**< The position after the last one that was ever promised. */
 };
 
-/** A held run, by absolute positions: from `start` on, up to `end`, which is not included. */
+/** A waiting range, or a block of an acknowledgement, by positions of the stream: from `start` on,
+ * up to `end`, which is not included. */
 struct net_base_held_run {
     uint64_t start; /**< The first position. */
     uint64_t end; /**< The position after the last one. */
 };
 
 /** All of a receiving end but its receiver: what it announced, when it acknowledges, and what came
- * twice. Its calls are given the receiver's numbers; who holds both has the receiver take what
- * arrives. */
+ * twice. */
 struct net_base_receiving {
     struct net_base_advertised_window advertised; /**< What was announced. */
     uint64_t newest; /**< The position of the newest segment. */
-    uint64_t recent[4]; /**< The starts of the runs that were listed last. */
+    uint64_t recent[4]; /**< The starts of the ranges that were listed last. */
     struct net_base_held_run duplicate; /**< What came twice, and wasn't reported yet. */
     uint16_t segment_size; /**< The most bytes of a segment. */
     uint8_t scale; /**< The scale of the windows. */
@@ -819,16 +870,17 @@ struct net_base_receiving {
 /** The receiving end of a stream.
  *
  * A head of zeros is new, of a stream that begins at position 0, with segments of no bytes. All of
- * an end is in its head but the bytes: at most 16 runs are held. A segment is classified, and
+ * an end is in its head but the bytes: at most 16 ranges wait. A segment is classified, and
  * arrives if it is to be taken; `net_base_receiving_end_answer` is for one that is only answered.
- * While `net_base_receiving_end_is_due` an acknowledgement is sent at once. While
- * `net_base_receiving_end_is_wanted` one is sent after the delay that the program has for it,
- * unless a segment with bytes is sent before that and announces. The calls of a finite receiver
- * that look at it may look at `receiver`: whether it is complete, whether all was read, what it
- * acknowledges. */
+ * While `net_base_receiving_end_is_due` is true, an acknowledgement is to be sent at once. While
+ * `net_base_receiving_end_is_wanted` is true, one is to be sent within half a second, unless a
+ * segment with bytes is sent before that and announces. Two calls of a finite receiver may be
+ * passed `receiver`: `net_base_finite_receiver_acknowledged` writes the first missing position,
+ * and `net_base_finite_receiver_has_read_all` returns whether the peer's stream has ended and was
+ * read. */
 struct net_base_receiving_end {
     struct net_base_finite_receiver receiver; /**< The receiver. */
-    struct net_base_run runs[16]; /**< The runs that it holds. */
+    struct net_base_run runs[16]; /**< The ranges that wait. */
     struct net_base_receiving head; /**< All else that it knows. */
 };
 
@@ -843,24 +895,28 @@ struct net_base_segment {
 
 /** What a segment without bytes tells the peer. */
 struct net_base_acknowledgement {
-    uint64_t next; /**< The first number that is missing. */
+    /** The first position that is missing. The end of the stream has one too, after the last byte.
+     */
+    uint64_t next;
     /** What came twice since the last one (RFC 2883), unless an end in order let go of it; and then
-     * the newest runs that are held, the newest first. */
+     * the newest waiting ranges, the newest first. */
     struct net_base_held_run blocks[4];
     size_t block_count; /**< How many blocks there are. The others are zeros. */
     uint16_t window; /**< The window, in units of the scale. */
 };
 
-/** Makes `end` that of a stream that begins at position `first`, at which nothing has arrived, and
- * whose segments have at most `segment_size` bytes. It is sound with every storage.
+/** Makes `end` the receiving side of a connection, whose stream begins at position `first`, at
+ * which nothing has arrived. The peer's segments have at most `segment_size` bytes, which is the
+ * MSS of your SYN. The storage may have any values.
  *
  * It is refused if `first` is `UINT64_MAX`: false, and nothing changes. */
 NET_BASE_MUST_USE bool net_base_receiving_end_init(
     struct net_base_receiving_end *end, uint64_t first, uint16_t segment_size)
     NET_BASE_LINK(receiving_end_init);
 
-/** Returns whether this head is that of an end whose storage has `capacity` bytes: its receiver is
- * sound with the runs. It looks at each held run, and at no byte. */
+/** Returns whether this head is sound over a storage of `capacity` bytes: its receiver is, with the
+ * runs. It looks at each used run, and at no byte. Ask it of a struct that anything but these
+ * calls may have written. */
 NET_BASE_MUST_USE bool net_base_receiving_end_is_sound(
     const struct net_base_receiving_end *end, size_t capacity)
     NET_BASE_LINK(receiving_end_is_sound);
@@ -875,10 +931,11 @@ NET_BASE_MUST_USE bool net_base_receiving_end_open(
     struct net_base_receiving_end *NET_BASE_RESTRICT end, size_t capacity, uint64_t first,
     uint8_t scale, uint16_t *NET_BASE_RESTRICT window) NET_BASE_LINK(receiving_end_open);
 
-/** Returns what to do with a segment, in the window that was announced, whatever is free now.
- * `capacity` is how many bytes the storage has. It is as RFC 9293, section 3.10.7.4, has it;
- * resets and SYNs are answered as RFC 5961 has it. While the own window is shut, acknowledgements
- * are taken all the same, so that two full ends hear of one another.
+/** Returns what to do with a segment that arrives after the peer's SYN, in the window that was
+ * announced, whatever is free now. `capacity` is how many bytes the storage has. It is as RFC
+ * 9293, section 3.10.7.4, has it; resets and SYNs are answered as RFC 5961 has it. While your
+ * window is shut, acknowledgements are taken all the same, so that two full ends hear of one
+ * another.
  *
  * Afterwards `net_base_sending_end_acknowledged` tests what the segment acknowledges. */
 NET_BASE_MUST_USE enum net_base_arrival_status net_base_receiving_end_classify(
@@ -886,10 +943,11 @@ NET_BASE_MUST_USE enum net_base_arrival_status net_base_receiving_end_classify(
     const struct net_base_segment *segment) NET_BASE_LINK(receiving_end_classify);
 
 /** Takes the bytes of a segment, the first at `position`, and the end if it `is_last`, writes to
- * `counts` how many were kept, and answers as `net_base_finite_receiver_segment`. An
+ * `counts` how many were kept, and returns what `net_base_finite_receiver_segment` does. An
  * acknowledgement is due for each second segment, and for one out of order, with the end, or not
- * kept. It is refused if `end` isn't one over `storage_length` bytes: `NET_BASE_SEGMENT_REFUSED`,
- * and nothing changes. Requires: the head is sound, as `net_base_receiving_end_is_sound` tests. */
+ * kept. One with neither bytes nor the end changes nothing. It is refused if `end` isn't one over
+ * `storage_length` bytes: `NET_BASE_SEGMENT_REFUSED`, and nothing changes. Requires: the head is
+ * sound, as `net_base_receiving_end_is_sound` tests. */
 NET_BASE_MUST_USE enum net_base_segment_status net_base_receiving_end_arrived(
     struct net_base_receiving_end *NET_BASE_RESTRICT end, uint8_t *NET_BASE_RESTRICT storage,
     size_t storage_length, uint64_t position, const uint8_t *NET_BASE_RESTRICT bytes,
@@ -904,9 +962,10 @@ void net_base_receiving_end_answer(
 NET_BASE_MUST_USE bool net_base_receiving_end_is_due(
     const struct net_base_receiving_end *end) NET_BASE_LINK(receiving_end_is_due);
 
-/** Returns whether an acknowledgement is to be sent before the program waits, where the storage has
- * `capacity` bytes: something came, or an update of the window is worth a segment. Once all has
- * arrived no update is.
+/** Returns whether an acknowledgement is to be sent within half a second (RFC 9293, 3.8.6.3), where
+ * the storage has `capacity` bytes: a segment waits for one, or an update of the window is worth a
+ * segment. Once all has arrived no update is. Ask it before you wait. A segment with bytes that
+ * you send in the meantime acknowledges too: ask again before you send one without.
  *
  * It is refused if `end` isn't one over `capacity` bytes: false. Requires: the head is sound with
  * the storage, as `net_base_receiving_end_is_sound` tests. */
@@ -914,9 +973,9 @@ NET_BASE_MUST_USE bool net_base_receiving_end_is_wanted(
     const struct net_base_receiving_end *end, size_t capacity)
     NET_BASE_LINK(receiving_end_is_wanted);
 
-/** Writes what a segment with bytes of its own tells, takes notice that it does, and returns true:
- * the first missing number to `next`, and to `window` the window, in units of the scale. An
- * acknowledgement that is due stays so: it lists runs.
+/** Writes what a segment with bytes of its own tells, and returns true: the first missing position
+ * to `next`, and to `window` the window, in units of the scale. The end counts both as told, so
+ * send the segment. An acknowledgement that is due stays so: it lists ranges.
  *
  * It is refused if `end` isn't one over `capacity` bytes: false, and nothing changes. Requires:
  * the head is sound, as `net_base_receiving_end_is_sound` tests. */
@@ -925,8 +984,8 @@ NET_BASE_MUST_USE bool net_base_receiving_end_announce(
     uint64_t *NET_BASE_RESTRICT next, uint16_t *NET_BASE_RESTRICT window)
     NET_BASE_LINK(receiving_end_announce);
 
-/** Writes what a segment without bytes tells, takes notice that it does, and returns true. What
- * came twice is told once. `capacity` is how many bytes the storage has.
+/** Writes what a segment without bytes tells, and returns true. The end counts it as told, so send
+ * the segment. What came twice is told once. `capacity` is how many bytes the storage has.
  *
  * It is refused if `end` isn't one over `capacity` bytes: false, and nothing changes. Requires:
  * the head is sound with the storage, as `net_base_receiving_end_is_sound` tests. */
@@ -935,8 +994,9 @@ NET_BASE_MUST_USE bool net_base_receiving_end_acknowledgement(
     struct net_base_acknowledgement *NET_BASE_RESTRICT acknowledgement)
     NET_BASE_LINK(receiving_end_acknowledgement);
 
-/** Moves bytes from the head of the queue to the beginning of `into`, and returns how many: as many
- * as are queued and as `into` has room for. The rest of `into` stays as it is.
+/** Copies bytes from the beginning of the queue to that of `into`, takes them off the queue, and
+ * returns how many: as many as are queued and as `into` has room for. The rest of `into` stays as
+ * it is.
  *
  * It is refused if `end` isn't one over `storage_length` bytes: `NET_BASE_NONE`, and nothing
  * changes. */
@@ -951,9 +1011,9 @@ NET_BASE_MUST_USE size_t net_base_receiving_end_read(
  *
  * The sending end of a stream as one machine: a sender of a stream that ends, what the peer has
  * reported, what is lost, the timer, and the peer's window. A program needs few of the fields
- * below: it reads those of `sender`, and fills in `struct net_base_timeout_bounds`. All others,
- * such as those of `struct net_base_loss_recovery`, are for the calls alone, and may differ in the
- * next version.
+ * below: it fills in `struct net_base_timeout_bounds`, and net_bound.h has calls that read those
+ * of `sender`. All others, such as those of `struct net_base_loss_recovery`, are for the calls
+ * alone, and may differ in the next version.
  *
  * @{ */
 
@@ -1021,11 +1081,11 @@ struct net_base_loss_recovery {
     size_t duplicates;
     bool has_probe; /**< Whether a probe wasn't answered. */
     bool is_blind; /**< Whether the peer doesn't report what has arrived, as the SYNs say. */
+    /** Whether the last recovery was a sign of congestion, and wasn't taken back. */
+    bool is_congestion;
 };
 
-/** What was reported and what is lost of what a sender has sent: a scoreboard, and a recovery. Its
- * calls are given the sender's numbers and the scoreboard's runs; who holds both has the sender
- * take what they say. */
+/** What was reported and what is lost of what a sender has sent: a scoreboard, and a recovery. */
 struct net_base_buffer {
     /** What was reported, with runs that the caller keeps. */
     struct net_base_scoreboard scoreboard;
@@ -1067,8 +1127,7 @@ struct net_base_peer_window {
 };
 
 /** All of a sending end but its sender and the times that were set: what was reported and what is
- * lost, the timer, and what the peer announced. Its calls are given the sender's numbers; who
- * holds both has the sender take what they say. */
+ * lost, the timer, and what the peer announced. */
 struct net_base_sending {
     struct net_base_buffer buffer; /**< What was reported and what is lost. */
     struct net_base_retransmission_timer timer; /**< The timer. */
@@ -1077,7 +1136,7 @@ struct net_base_sending {
     uint64_t last_window; /**< The window that it announced last. */
     size_t segment_size; /**< The most bytes of a segment. 0 counts as 1. */
     bool no_delay; /**< Whether Nagle's rule is disabled. */
-    bool is_open; /**< Whether the peer has acknowledged anything, if only the own SYN. */
+    bool is_open; /**< Whether the peer has acknowledged anything, if only this end's SYN. */
     /** Whether the timeout has passed and nothing was sent since then: nothing is held back, and if
      * the window is shut, the next segment is a probe of it. */
     bool is_window_probe_due;
@@ -1099,14 +1158,14 @@ struct net_base_timeout_bounds {
 /** The sending end of a stream.
  *
  * A head of zeros is new, of a stream that begins at position 0, whose first timeout is 1 second
- * within the RFC's bounds. All of an end is in its head but the bytes: at most 16 runs are
- * remembered of what was reported, enough for windows of up to 256 KiB on paths that reorder.
- * `net_base_sending_end_write` alone is passed the storage: others need at most its capacity.
- * Where the peer's SYN has come, `net_base_sending_end_open` begins with it. Each segment that is
- * taken is acknowledged by `net_base_sending_end_acknowledged`. What is to be sent,
- * `net_base_sending_end_next_segment` says, until it says that nothing is, and
- * `net_base_sending_end_bytes` where it is. At the moment of `net_base_sending_end_expires_at` the
- * timer is asked by `net_base_sending_end_expired`.
+ * within the RFC's bounds. All of an end is in its head but the bytes: at most 16 ranges are
+ * remembered of what was reported, enough for windows of 128 segments on paths that lose or
+ * reorder. `net_base_sending_end_write` alone is passed the storage: others need at most its
+ * capacity. When the peer's SYN has come, `net_base_sending_end_open` begins with it. What a
+ * segment acknowledges, pass to `net_base_sending_end_acknowledged`.
+ * `net_base_sending_end_next_segment` says what to send, until it says that nothing is, and
+ * `net_base_sending_end_bytes` where that is. At the moment that `net_base_sending_end_expires_at`
+ * writes, call `net_base_sending_end_expired`.
  *
  * A number whose flag is false doesn't count, whatever it is. A timeout of 0 that counts passes at
  * once, and then becomes the least one; no call writes such a timeout. */
@@ -1131,7 +1190,7 @@ struct net_base_announcement {
 /** What an acknowledgement said. */
 struct net_base_taken_acknowledgement {
     enum net_base_acknowledged_status status; /**< What became of it. */
-    uint64_t count; /**< How many numbers it acknowledged that weren't before. */
+    uint64_t count; /**< How many positions it acknowledged that weren't before. */
     bool reports; /**< Whether a block of it reports what wasn't known. */
     bool begins; /**< Whether it begins a recovery: then halve the congestion window. */
 };
@@ -1148,7 +1207,7 @@ struct net_base_ended_timer {
 struct net_base_outgoing_segment {
     enum net_base_outgoing_status status; /**< Whether there is one. */
     uint64_t position; /**< The position of its first byte, or of the end; 0 if there is none. */
-    /** The number after its last one, that of the end among them; 0 if there is none. */
+    /** The position after its last one, where the end has one too; 0 if there is none. */
     uint64_t end;
     bool is_again; /**< Whether some of it was sent before. */
 };
@@ -1162,8 +1221,9 @@ struct net_base_segment_parts {
     bool is_last; /**< Whether the segment ends the stream. */
 };
 
-/** Makes `end` the end of a stream that begins at position `first`, to which nothing was written.
- * `first_timeout` is that before any sample: 1 second for TCP (RFC 6298, 2.1), as which 0 counts.
+/** Makes `end` the sending side of a connection, whose stream begins at position `first`, and to
+ * which nothing was written. `first_timeout` is that before any sample: 1 second for TCP (RFC
+ * 6298, 2.1), as which 0 counts. The storage may have any values.
  *
  * It is refused if `first` is `UINT64_MAX`, since an end there would have no number after it:
  * false, and nothing changes. */
@@ -1172,16 +1232,18 @@ NET_BASE_MUST_USE bool net_base_sending_end_init(
     const struct net_base_timeout_bounds *NET_BASE_RESTRICT bounds) NET_BASE_LINK(sending_end_init);
 
 /** Returns whether the end is sound over a storage of `capacity` bytes: `sender` is that of a
- * sender over as many, and `head.buffer.scoreboard` is sound with `runs`. All other numbers may be
- * any. It looks at each used run. */
+ * sender over as many, and `runs` are those of `head.buffer.scoreboard`. All other numbers may be
+ * any. It looks at each used run. Calls that need it test it themselves. */
 NET_BASE_MUST_USE bool net_base_sending_end_is_sound(
     const struct net_base_sending_end *end, size_t capacity) NET_BASE_LINK(sending_end_is_sound);
 
 /** Begins with a peer, whose SYN announced a window, how many bytes a segment may have, and whether
  * it reports blocks (SACK): one that doesn't couldn't answer a probe, and is sent none.
- * `announcement.ack` is the own first position, even if the SYN has no ACK. What was written
- * stays. It is done once, before anything is sent; a second time begins with another peer, and the
- * timer runs if something is in flight.
+ * `announcement.seq` is the SYN's position, and `announcement.ack` your first position, even if
+ * the SYN has no ACK. `segment_size` counts bytes of the stream alone: pass the peer's MSS less
+ * the options that each of your segments has (RFC 6691). What was written stays. It is done once,
+ * before anything is sent; a second time begins with another peer, and the timer runs if something
+ * is in flight.
  *
  * It is refused if `end` isn't sound over `capacity` bytes: false, and nothing changes. */
 NET_BASE_MUST_USE bool net_base_sending_end_open(
@@ -1190,7 +1252,7 @@ NET_BASE_MUST_USE bool net_base_sending_end_open(
     bool reports, int64_t now) NET_BASE_LINK(sending_end_open);
 
 /** Returns whether a SYN is to be sent now, the first one or one after a timeout, and starts the
- * timer for the next. Ask it only until something is acknowledged, at which it doesn't look.
+ * timer for the next. Ask it only until your SYN is acknowledged: it doesn't test that.
  *
  * It is refused if `end` isn't sound over `capacity` bytes: false, and nothing changes. */
 NET_BASE_MUST_USE bool net_base_sending_end_is_opening_due(
@@ -1237,20 +1299,19 @@ NET_BASE_MUST_USE struct net_base_ended_timer net_base_sending_end_expired(
     struct net_base_sending_end *end, size_t capacity, int64_t now)
     NET_BASE_LINK(sending_end_expired);
 
-/** Returns whether the last recovery was for nothing, and ends it then: nothing that was found lost
- * is missing but what was sent again, and all that was sent again came twice (RFC 3708). Then the
- * congestion window may be what it was when the recovery began. Ask it after each acknowledgement,
- * an old one too. It is true once: not before another recovery begins, or the timer ends. After
- * `NET_BASE_EXPIRED_PROBE` it can be true though nothing was halved.
+/** Returns whether the last recovery was spurious, and ends it then: nothing had been lost, since
+ * all that was sent again came twice (RFC 3708), and the rest arrived. Then restore the congestion
+ * window of before the recovery. Ask it after each acknowledgement, an old one too. It is true at
+ * most once after each sign of congestion: a `begins` that is true, or `NET_BASE_EXPIRED_LOST`.
  *
  * It is refused if `end` isn't sound over `capacity` bytes: false, and nothing changes. */
 NET_BASE_MUST_USE bool net_base_sending_end_take_back(
     struct net_base_sending_end *end, size_t capacity) NET_BASE_LINK(sending_end_take_back);
 
-/** Returns the segment that is to be sent now, and takes notice that it is: if the peer's window
- * and the congestion window have room for one, or as a probe. `congestion_window` is how many
- * bytes may be in flight, but one segment may be, however small it is. Less than a whole segment
- * may be held back (RFC 9293, 3.8.6.2.1, and Nagle's rule).
+/** Returns the segment that is to be sent now, and counts it as sent: if the peer's window and the
+ * congestion window have room for one, or as a probe. `congestion_window` is how many bytes may be
+ * in flight, but one segment may be, however small it is. Less than a whole segment may be held
+ * back (RFC 9293, 3.8.6.2.1, and Nagle's rule).
  *
  * It is refused if `end` isn't sound over `capacity` bytes: `position` and `end` are 0, `is_again`
  * is false, the status is `NET_BASE_OUTGOING_REFUSED`, and nothing changes. */
@@ -1258,9 +1319,8 @@ NET_BASE_MUST_USE struct net_base_outgoing_segment net_base_sending_end_next_seg
     struct net_base_sending_end *end, size_t capacity, uint64_t congestion_window, int64_t now)
     NET_BASE_LINK(sending_end_next_segment);
 
-/** Returns where the bytes of a segment from `position` on are, whose numbers are below `limit`, in
- * two parts, and whether the stream ends after them. Of a position that is acknowledged there are
- * none.
+/** Returns where the bytes of a segment from `position` on, and below `limit`, are, in two parts,
+ * and whether the stream ends after them. Of a position that is acknowledged there are none.
  *
  * It is refused if `sender` isn't that of a sender over `capacity` bytes: `from` is
  * `NET_BASE_NONE`, `count`, `rest_from` and `rest_count` are 0, `is_last` is false. */
@@ -1272,8 +1332,8 @@ NET_BASE_MUST_USE struct net_base_segment_parts net_base_sending_end_bytes(
 NET_BASE_MUST_USE bool net_base_sending_end_is_done(
     const struct net_base_sending_end *end) NET_BASE_LINK(sending_end_is_done);
 
-/** Returns whether the timer runs, and writes to `moment` when `net_base_sending_end_expired` is to
- * be asked, if it does. */
+/** Returns whether the timer runs, and if so writes to `moment` when to call
+ * `net_base_sending_end_expired`. */
 NET_BASE_MUST_USE bool net_base_sending_end_expires_at(
     const struct net_base_sending_end *NET_BASE_RESTRICT end, int64_t *NET_BASE_RESTRICT moment)
     NET_BASE_LINK(sending_end_expires_at);
@@ -1281,13 +1341,13 @@ NET_BASE_MUST_USE bool net_base_sending_end_expires_at(
 /** Returns the position that an empty segment has, as an acknowledgement alone: its sequence
  * number.
  *
- * It is refused if the first number that isn't acknowledged doesn't fit 64 bits: `UINT64_MAX`. */
+ * It is refused if the first position that isn't acknowledged doesn't fit 64 bits: `UINT64_MAX`. */
 NET_BASE_MUST_USE uint64_t net_base_sending_end_empty_segment_position(
     const struct net_base_sending_end *end) NET_BASE_LINK(sending_end_empty_segment_position);
 
 /** Returns whether a recovery lasts.
  *
- * It is refused if the first number that isn't acknowledged doesn't fit 64 bits: false. */
+ * It is refused if the first position that isn't acknowledged doesn't fit 64 bits: false. */
 NET_BASE_MUST_USE bool net_base_sending_end_is_recovering(
     const struct net_base_sending_end *end) NET_BASE_LINK(sending_end_is_recovering);
 
@@ -1300,11 +1360,12 @@ NET_BASE_MUST_USE bool net_base_sending_end_is_recovering(
  *
  * @{ */
 
-/** A limit of answers.
+/** A limit of answers. Keep one for each connection.
  *
  * A limit of zeros allows an answer from moment 0 on. */
 struct net_base_answer_limit {
-    int64_t until; /**< When the next segment is answered that may be an answer itself. */
+    /** From this moment on a segment that may itself be an answer is answered again. */
+    int64_t until;
 };
 
 /** Makes `limit` one before any answer, which allows one at any moment. */
@@ -1313,10 +1374,10 @@ void net_base_answer_limit_init(
 
 /** Returns whether to answer a segment of which nothing is taken, `NET_BASE_ARRIVAL_ANSWER` of
  * `net_base_receiving_end_classify` or `NET_BASE_ACKNOWLEDGED_ANSWER` of
- * `net_base_sending_end_acknowledged`, and takes notice that it is answered. A segment without
+ * `net_base_sending_end_acknowledged`, and if so counts it as answered. A segment without
  * positions, which may be an answer itself, and a SYN are answered at most twice a second, so that
- * two ends don't answer each other's answers without end (RFC 5961, section 7). If the clock is
- * set back, the limit stays until the moment that it was. */
+ * two ends don't answer each other's answers without end (RFC 5961, section 7). Any other is
+ * answered each time. If the clock is set back, the limit stays until the moment that it was. */
 NET_BASE_MUST_USE bool net_base_answer_limit_allows(
     struct net_base_answer_limit *NET_BASE_RESTRICT limit,
     const struct net_base_segment *NET_BASE_RESTRICT segment, int64_t now)
@@ -1355,8 +1416,9 @@ NET_BASE_MUST_USE bool net_base_sequence_number_position(
 /** @endcond */
 
 /** A function that you write if the library was built with `--features check`: a call broke a duty.
- * `duty` is its number, 7 for 5 and 6 too; `argument` names the parameter, or is empty. It must not
- * return, unless the number is 0: then the call was refused, for a null pointer if that is named.
+ * `duty` is its number, but 7 for duties 5 and 6 too. `name` is that of the call, and `argument` that
+ * of the parameter, or empty. It must not return, unless `duty` is 0: then no duty was broken, but
+ * the call was refused, because the parameter is null if one is named.
  */
 void net_base_broken(uint32_t duty, const char *name, const char *argument);
 

@@ -1,34 +1,24 @@
 /* SPDX-License-Identifier: 0BSD */
 /** @file
- * Heads with their memory. Written by tools/ffi.py.
- *
- * Quick start
- *
- *     #include "net_bound.h"
+ * The calls of net_base.h, with structs that remember your buffers. Written by tools/ffi.py.
  *
  *     static struct net_bound_finite_receiver receiver;
  *     static uint8_t storage[64];         // room for the stream's bytes
  *     static struct net_base_run runs[4]; // at most four ranges may wait
  *
- *     int main(void)
- *     {
- *         const uint8_t later[] = "def", first[] = "abc"; // at positions 3 and 0
- *         struct net_base_kept_counts counts;
- *         uint8_t out[64];
- *         if (!net_bound_finite_receiver_init(&receiver, storage, 64, runs, 4, 0) ||
- *             net_bound_finite_receiver_segment(&receiver, 3, later, 3, false, &counts) ||
- *             net_bound_finite_receiver_segment(&receiver, 0, first, 3, false, &counts))
- *             return 1; // refused: a status that isn't 0
- *         return net_bound_finite_receiver_read(&receiver, out, 64) != 6; // "abcdef"
- *     }
+ * Once `net_bound_finite_receiver_init(&receiver, storage, 64, runs, 4, 0)` is true, the other
+ * calls are passed `&receiver` in place of the buffers. docs/C.md has whole programs.
  *
- * A call `net_bound_..` is `net_base_..` of net_base.h, whose comment has the whole: what is refused, and what it leaves
- * then. Times are in microseconds. A struct has the head, and where storage, runs or slots are. Only `.._init` is passed
- * these, so duty 5 is kept. In place of that call you may zero the struct and set its memory. Read its fields as you
- * like, but let only these calls write them.
+ * A call `net_bound_..` makes the call `net_base_..`, whose comment in net_base.h has the whole:
+ * also when it is refused, that is, changes nothing and returns a value that says so. Words are
+ * explained there, such as *run*, a waiting range, and *sound*, as calls leave a struct. Times are
+ * in microseconds. Each struct has the head, which is its numbers, and a pointer to each buffer
+ * with its length, which `.._init` alone is passed: so duty 5 of net_base.h is kept. A struct of
+ * zeros has no storage. In place of `.._init` you may set the struct to zeros, and then its
+ * pointers and lengths. Read fields as you like, but let only these calls write the head.
  *
- * Where a call of net_base.h returns `NET_BASE_NONE` or `UINT64_MAX`, these return 0. The place of a packet is written to
- * `place`, and false says that there is none.
+ * In place of `NET_BASE_NONE` and `UINT64_MAX` these calls return 0. Where a packet is, they write
+ * to `place`, and return false if there is none.
  */
 #ifndef NET_BOUND_H
 #define NET_BOUND_H
@@ -50,13 +40,13 @@ static inline size_t net_bound_or_0(size_t number) {
 }
 /** @endcond */
 
-/** `struct net_base_ring` with its memory. */
+/** `struct net_base_ring`, and where its memory is. */
 struct net_bound_ring {
-    struct net_base_ring head; /**< Its numbers. */
-    uint8_t *storage; /**< As `.._init` was passed it. */
+    struct net_base_ring head; /**< Its numbers, which only calls write. */
+    uint8_t *storage; /**< The array that `.._init` was passed. */
     size_t capacity; /**< How many elements that has. */
 };
-/** Makes `ring` the head of an empty ring, which is sound for each storage. */
+/** Makes `ring` the head of an empty ring, for a storage of any length. */
 static inline void net_bound_ring_init(
     struct net_bound_ring *ring, uint8_t *storage, size_t capacity) {
     net_base_ring_init(NET_BOUND_HEAD(ring));
@@ -81,7 +71,7 @@ NET_BASE_MUST_USE static inline struct net_base_span net_bound_ring_allocated(
     found.from = net_bound_or_0(found.from);
     return found;
 }
-/** Enqueues `count` elements, with what the storage has there. */
+/** Enqueues `count` elements that you have written to the storage before. */
 NET_BASE_MUST_USE static inline bool net_bound_ring_enqueue(
     struct net_bound_ring *ring, size_t count) {
     return net_base_ring_enqueue(NET_BOUND_HEAD(ring), NET_BOUND_CAPACITY(ring), count);
@@ -105,12 +95,12 @@ NET_BASE_MUST_USE static inline size_t net_bound_ring_dequeue_slice(
         into, into_length));
 }
 
-/** `struct net_base_packets` with its memory. */
+/** `struct net_base_packets`, and where its memory is. */
 struct net_bound_packets {
-    struct net_base_packets head; /**< Its numbers. */
-    uint8_t *storage; /**< As `.._init` was passed it. */
+    struct net_base_packets head; /**< Its numbers, which only calls write. */
+    uint8_t *storage; /**< The array that `.._init` was passed. */
     size_t capacity; /**< How many elements that has. */
-    struct net_base_packet_slot *slots; /**< As `.._init` was passed it. */
+    struct net_base_packet_slot *slots; /**< The array that `.._init` was passed. */
     size_t slots_length; /**< How many elements that has. */
 };
 /** Makes `packets` the head of a queue with no packets. */
@@ -161,12 +151,12 @@ NET_BASE_MUST_USE static inline bool net_bound_packets_peek(
     return true;
 }
 
-/** `struct net_base_fragments` with its memory. */
+/** `struct net_base_fragments`, and where its memory is. */
 struct net_bound_fragments {
-    struct net_base_fragments head; /**< Its numbers. */
-    uint8_t *storage; /**< As `.._init` was passed it. */
+    struct net_base_fragments head; /**< Its numbers, which only calls write. */
+    uint8_t *storage; /**< The array that `.._init` was passed. */
     size_t capacity; /**< How many elements that has. */
-    struct net_base_run *runs; /**< As `.._init` was passed it. */
+    struct net_base_run *runs; /**< The array that `.._init` was passed. */
     size_t runs_length; /**< How many elements that has. */
 };
 /** Makes `fragments` the head of an empty buffer, whose packet is waited for up to `expires_at`, in
@@ -179,7 +169,8 @@ static inline void net_bound_fragments_init(
     fragments->storage = storage; fragments->capacity = capacity;
     fragments->runs = runs; fragments->runs_length = runs_length;
 }
-/** Returns whether head and runs are those of a buffer of `capacity` bytes, for any numbers. */
+/** Returns whether head and runs are sound over a storage of `capacity` bytes, whatever numbers
+ * they have. */
 NET_BASE_MUST_USE static inline bool net_bound_fragments_is_sound(
     const struct net_bound_fragments *fragments) {
     return net_base_fragments_is_sound(NET_BOUND_HEAD(fragments), NET_BOUND_CAPACITY(fragments),
@@ -213,12 +204,12 @@ NET_BASE_MUST_USE static inline bool net_bound_fragments_complete(
         NET_BOUND_RUNS(fragments), size);
 }
 
-/** `struct net_base_finite_receiver` with its memory. */
+/** `struct net_base_finite_receiver`, and where its memory is. */
 struct net_bound_finite_receiver {
-    struct net_base_finite_receiver head; /**< Its numbers. */
-    uint8_t *storage; /**< As `.._init` was passed it. */
+    struct net_base_finite_receiver head; /**< Its numbers, which only calls write. */
+    uint8_t *storage; /**< The array that `.._init` was passed. */
     size_t capacity; /**< How many elements that has. */
-    struct net_base_run *runs; /**< As `.._init` was passed it. */
+    struct net_base_run *runs; /**< The array that `.._init` was passed. */
     size_t runs_length; /**< How many elements that has. */
 };
 /** Makes `receiver` the head of a receiver of a stream that begins at position `first`; nothing has
@@ -238,14 +229,14 @@ NET_BASE_MUST_USE static inline bool net_bound_finite_receiver_is_sound(
         NET_BOUND_RUNS(receiver));
 }
 /** Returns whether the stream can end at `position`: it is the end that is known, or none is, and
- * it isn't below the first missing position or a held run's end. */
+ * it isn't below the first missing position or the end of a waiting range. */
 NET_BASE_MUST_USE static inline bool net_bound_finite_receiver_can_end(
     const struct net_bound_finite_receiver *receiver, uint64_t position) {
     return net_base_finite_receiver_can_end(NET_BOUND_HEAD(receiver), NET_BOUND_RUNS(receiver),
         position);
 }
 /** Writes to `number` the number that an acknowledgement carries: the first missing position, or,
- * once all bytes and the end have arrived, the end plus 1, since the end has a number. */
+ * once all bytes and the end have arrived, the end plus 1, since the end takes a position. */
 NET_BASE_MUST_USE static inline bool net_bound_finite_receiver_acknowledged(
     const struct net_bound_finite_receiver *receiver, uint64_t *number) {
     return net_base_finite_receiver_acknowledged(NET_BOUND_HEAD(receiver), number);
@@ -255,15 +246,15 @@ NET_BASE_MUST_USE static inline bool net_bound_finite_receiver_has_read_all(
     const struct net_bound_finite_receiver *receiver) {
     return net_base_finite_receiver_has_read_all(NET_BOUND_HEAD(receiver));
 }
-/** Moves bytes from the head of the queue to the beginning of `into`, and returns how many: as many
- * as are queued and as `into` has room for. */
+/** Copies bytes from the beginning of the queue to that of `into`, takes them off the queue, and
+ * returns how many: as many as are queued and as `into` has room for. */
 NET_BASE_MUST_USE static inline size_t net_bound_finite_receiver_read(
     struct net_bound_finite_receiver *receiver, uint8_t *into, size_t into_length) {
     return net_bound_or_0(net_base_finite_receiver_read(NET_BOUND_HEAD(receiver),
         NET_BOUND_STORAGE(receiver), into, into_length));
 }
-/** Removes the first `count` bytes of the queue, as `net_bound_finite_receiver_read` does, and
- * copies none. */
+/** Takes the first `count` bytes off the queue, as `net_bound_finite_receiver_read` does, and
+ * copies none: they were read in place. */
 NET_BASE_MUST_USE static inline bool net_bound_finite_receiver_remove(
     struct net_bound_finite_receiver *receiver, size_t count) {
     return net_base_finite_receiver_remove(NET_BOUND_HEAD(receiver), NET_BOUND_CAPACITY(receiver),
@@ -285,14 +276,14 @@ NET_BASE_MUST_USE static inline bool net_bound_finite_receiver_window_end(
         NET_BOUND_CAPACITY(receiver), end);
 }
 
-/** `struct net_base_receiving_end` with its memory. */
+/** `struct net_base_receiving_end`, and where its memory is. */
 struct net_bound_receiving_end {
-    struct net_base_receiving_end head; /**< Its numbers. */
-    uint8_t *storage; /**< As `.._init` was passed it. */
+    struct net_base_receiving_end head; /**< Its numbers, which only calls write. */
+    uint8_t *storage; /**< The array that `.._init` was passed. */
     size_t capacity; /**< How many elements that has. */
 };
-/** Makes `end` that of a stream that begins at position `first`, at which nothing has arrived, and
- * whose segments have at most `segment_size` bytes. */
+/** Makes `end` the receiving side of a connection, whose stream begins at position `first`, at
+ * which nothing has arrived. */
 NET_BASE_MUST_USE static inline bool net_bound_receiving_end_init(
     struct net_bound_receiving_end *end, uint8_t *storage, size_t capacity, uint64_t first,
     uint16_t segment_size) {
@@ -300,7 +291,7 @@ NET_BASE_MUST_USE static inline bool net_bound_receiving_end_init(
     end->storage = storage; end->capacity = capacity;
     return true;
 }
-/** Returns whether this head is that of an end whose storage has `capacity` bytes. */
+/** Returns whether this head is sound over a storage of `capacity` bytes. */
 NET_BASE_MUST_USE static inline bool net_bound_receiving_end_is_sound(
     const struct net_bound_receiving_end *end) {
     return net_base_receiving_end_is_sound(NET_BOUND_HEAD(end), NET_BOUND_CAPACITY(end));
@@ -312,13 +303,14 @@ NET_BASE_MUST_USE static inline bool net_bound_receiving_end_open(
     return net_base_receiving_end_open(NET_BOUND_HEAD(end), NET_BOUND_CAPACITY(end), first, scale,
         window);
 }
-/** Returns what to do with a segment, in the window that was announced, whatever is free now. */
+/** Returns what to do with a segment that arrives after the peer's SYN, in the window that was
+ * announced, whatever is free now. */
 NET_BASE_MUST_USE static inline enum net_base_arrival_status net_bound_receiving_end_classify(
     const struct net_bound_receiving_end *end, const struct net_base_segment *segment) {
     return net_base_receiving_end_classify(NET_BOUND_HEAD(end), NET_BOUND_CAPACITY(end), segment);
 }
 /** Takes the bytes of a segment, the first at `position`, and the end if it `is_last`, writes to
- * `counts` how many were kept, and answers as `net_bound_finite_receiver_segment`. */
+ * `counts` how many were kept, and returns what `net_bound_finite_receiver_segment` does. */
 NET_BASE_MUST_USE static inline enum net_base_segment_status net_bound_receiving_end_arrived(
     struct net_bound_receiving_end *end, uint64_t position, const uint8_t *bytes,
     size_t bytes_length, bool is_last, struct net_base_kept_counts *counts) {
@@ -334,41 +326,42 @@ NET_BASE_MUST_USE static inline bool net_bound_receiving_end_is_due(
     const struct net_bound_receiving_end *end) {
     return net_base_receiving_end_is_due(NET_BOUND_HEAD(end));
 }
-/** Returns whether an acknowledgement is to be sent before the program waits, where the storage has
- * `capacity` bytes: something came, or an update of the window is worth a segment. */
+/** Returns whether an acknowledgement is to be sent within half a second (RFC 9293, 3.8.6.3), where
+ * the storage has `capacity` bytes: a segment waits for one, or an update of the window is worth a
+ * segment. */
 NET_BASE_MUST_USE static inline bool net_bound_receiving_end_is_wanted(
     const struct net_bound_receiving_end *end) {
     return net_base_receiving_end_is_wanted(NET_BOUND_HEAD(end), NET_BOUND_CAPACITY(end));
 }
-/** Writes what a segment with bytes of its own tells, takes notice that it does, and returns true:
- * the first missing number to `next`, and to `window` the window, in units of the scale. */
+/** Writes what a segment with bytes of its own tells, and returns true: the first missing position
+ * to `next`, and to `window` the window, in units of the scale. */
 NET_BASE_MUST_USE static inline bool net_bound_receiving_end_announce(
     struct net_bound_receiving_end *end, uint64_t *next, uint16_t *window) {
     return net_base_receiving_end_announce(NET_BOUND_HEAD(end), NET_BOUND_CAPACITY(end), next,
         window);
 }
-/** Writes what a segment without bytes tells, takes notice that it does, and returns true. */
+/** Writes what a segment without bytes tells, and returns true. */
 NET_BASE_MUST_USE static inline bool net_bound_receiving_end_acknowledgement(
     struct net_bound_receiving_end *end, struct net_base_acknowledgement *acknowledgement) {
     return net_base_receiving_end_acknowledgement(NET_BOUND_HEAD(end), NET_BOUND_CAPACITY(end),
         acknowledgement);
 }
-/** Moves bytes from the head of the queue to the beginning of `into`, and returns how many: as many
- * as are queued and as `into` has room for. */
+/** Copies bytes from the beginning of the queue to that of `into`, takes them off the queue, and
+ * returns how many: as many as are queued and as `into` has room for. */
 NET_BASE_MUST_USE static inline size_t net_bound_receiving_end_read(
     struct net_bound_receiving_end *end, uint8_t *into, size_t into_length) {
     return net_bound_or_0(net_base_receiving_end_read(NET_BOUND_HEAD(end), NET_BOUND_STORAGE(end),
         into, into_length));
 }
 
-/** `struct net_base_sending_end` with its memory. */
+/** `struct net_base_sending_end`, and where its memory is. */
 struct net_bound_sending_end {
-    struct net_base_sending_end head; /**< Its numbers. */
-    uint8_t *storage; /**< As `.._init` was passed it. */
+    struct net_base_sending_end head; /**< Its numbers, which only calls write. */
+    uint8_t *storage; /**< The array that `.._init` was passed. */
     size_t capacity; /**< How many elements that has. */
 };
-/** Makes `end` the end of a stream that begins at position `first`, to which nothing was written.
- */
+/** Makes `end` the sending side of a connection, whose stream begins at position `first`, and to
+ * which nothing was written. */
 NET_BASE_MUST_USE static inline bool net_bound_sending_end_init(
     struct net_bound_sending_end *end, uint8_t *storage, size_t capacity, uint64_t first,
     uint64_t first_timeout, const struct net_base_timeout_bounds *bounds) {
@@ -425,21 +418,21 @@ NET_BASE_MUST_USE static inline struct net_base_ended_timer net_bound_sending_en
     struct net_bound_sending_end *end, int64_t now) {
     return net_base_sending_end_expired(NET_BOUND_HEAD(end), NET_BOUND_CAPACITY(end), now);
 }
-/** Returns whether the last recovery was for nothing, and ends it then: nothing that was found lost
- * is missing but what was sent again, and all that was sent again came twice (RFC 3708). */
+/** Returns whether the last recovery was spurious, and ends it then: nothing had been lost, since
+ * all that was sent again came twice (RFC 3708), and the rest arrived. */
 NET_BASE_MUST_USE static inline bool net_bound_sending_end_take_back(
     struct net_bound_sending_end *end) {
     return net_base_sending_end_take_back(NET_BOUND_HEAD(end), NET_BOUND_CAPACITY(end));
 }
-/** Returns the segment that is to be sent now, and takes notice that it is: if the peer's window
- * and the congestion window have room for one, or as a probe. */
+/** Returns the segment that is to be sent now, and counts it as sent: if the peer's window and the
+ * congestion window have room for one, or as a probe. */
 NET_BASE_MUST_USE static inline struct net_base_outgoing_segment net_bound_sending_end_next_segment(
     struct net_bound_sending_end *end, uint64_t congestion_window, int64_t now) {
     return net_base_sending_end_next_segment(NET_BOUND_HEAD(end), NET_BOUND_CAPACITY(end),
         congestion_window, now);
 }
-/** Returns where the bytes of a segment from `position` on are, whose numbers are below `limit`, in
- * two parts, and whether the stream ends after them. */
+/** Returns where the bytes of a segment from `position` on, and below `limit`, are, in two parts,
+ * and whether the stream ends after them. */
 NET_BASE_MUST_USE static inline struct net_base_segment_parts net_bound_sending_end_bytes(
     const struct net_bound_sending_end *end, uint64_t position, uint64_t limit) {
     struct net_base_segment_parts found = net_base_sending_end_bytes(NET_BOUND_HEAD(end),
@@ -452,8 +445,8 @@ NET_BASE_MUST_USE static inline bool net_bound_sending_end_is_done(
     const struct net_bound_sending_end *end) {
     return net_base_sending_end_is_done(NET_BOUND_HEAD(end));
 }
-/** Returns whether the timer runs, and writes to `moment` when `net_bound_sending_end_expired` is
- * to be asked, if it does. */
+/** Returns whether the timer runs, and if so writes to `moment` when to call
+ * `net_bound_sending_end_expired`. */
 NET_BASE_MUST_USE static inline bool net_bound_sending_end_expires_at(
     const struct net_bound_sending_end *end, int64_t *moment) {
     return net_base_sending_end_expires_at(NET_BOUND_HEAD(end), moment);
@@ -471,15 +464,55 @@ NET_BASE_MUST_USE static inline bool net_bound_sending_end_is_recovering(
     return net_base_sending_end_is_recovering(NET_BOUND_HEAD(end));
 }
 
-/** `net_base_finite_receiver_acknowledged`, of the receiver of an end. */
+/* What a program asks besides, of fields of a head. Of null these return 0 or false. */
+
+/** Returns how many elements are queued. */
+NET_BASE_MUST_USE static inline size_t net_bound_ring_length(const struct net_bound_ring *ring) {
+    return ring ? ring->head.length : 0;
+}
+/** Returns how many bytes are queued: those that `net_bound_finite_receiver_read` can copy now. */
+NET_BASE_MUST_USE static inline size_t net_bound_finite_receiver_queued(
+    const struct net_bound_finite_receiver *receiver) {
+    return receiver ? receiver->head.receiver.place.length : 0;
+}
+/** Returns how many bytes are queued: those that `net_bound_receiving_end_read` can copy now. */
+NET_BASE_MUST_USE static inline size_t net_bound_receiving_end_queued(
+    const struct net_bound_receiving_end *end) {
+    return end ? end->head.receiver.receiver.place.length : 0;
+}
+/** Writes the first missing position to `number`, as `net_bound_finite_receiver_acknowledged` does:
+ * it is after the end once all has arrived. */
 NET_BASE_MUST_USE static inline bool net_bound_receiving_end_acknowledged(
     const struct net_bound_receiving_end *end, uint64_t *number) {
     return net_base_finite_receiver_acknowledged(end ? &end->head.receiver : NULL, number);
 }
-/** `net_base_finite_receiver_has_read_all`, of the receiver of an end. */
+/** Returns whether the end of the peer's stream, its FIN, has arrived, and all bytes before it. */
+NET_BASE_MUST_USE static inline bool net_bound_receiving_end_is_complete(
+    const struct net_bound_receiving_end *end) {
+    uint64_t number;
+    return net_bound_receiving_end_acknowledged(end, &number)
+           && number == end->head.receiver.after_end && number > 0;
+}
+/** Returns whether the peer's stream has ended, and all its bytes were read: none will follow. */
 NET_BASE_MUST_USE static inline bool net_bound_receiving_end_has_read_all(
     const struct net_bound_receiving_end *end) {
     return net_base_finite_receiver_has_read_all(end ? &end->head.receiver : NULL);
+}
+/** Returns how many bytes `net_bound_sending_end_write` would take now: none once it is closed. */
+NET_BASE_MUST_USE static inline size_t net_bound_sending_end_room(
+    const struct net_bound_sending_end *end) {
+    return end && !end->head.sender.closed ? end->capacity - end->head.sender.sender.place.length
+                                           : 0;
+}
+/** Returns the first position that isn't acknowledged: that of an acknowledgement is near it. */
+NET_BASE_MUST_USE static inline uint64_t net_bound_sending_end_first_unacknowledged(
+    const struct net_bound_sending_end *end) {
+    return end ? end->head.sender.sender.first_unacknowledged + end->head.sender.finished : 0;
+}
+/** Returns how many positions were sent and aren't acknowledged (FlightSize of RFC 5681). */
+NET_BASE_MUST_USE static inline uint64_t net_bound_sending_end_flight_size(
+    const struct net_bound_sending_end *end) {
+    return end ? end->head.sender.sent - net_bound_sending_end_first_unacknowledged(end) : 0;
 }
 
 /** @cond */

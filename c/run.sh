@@ -3,7 +3,7 @@
 #
 # It compares the library's symbols with the header, and the structs' layouts; tries the headers in four languages by
 # each compiler that is here, and by doxygen; a program of another version, which must not link or load; pkg-config,
-# CMake, Meson and the lines of docs/C.md for rustc alone; and runs bare (no C library), hosted, duties (over a library
+# CMake, Meson and the lines of meson.build for rustc alone; and runs bare (no C library), hosted, duties (over a library
 # that tests them), those of programs, and a sequence of 1,000,000 calls, whose digest is in c/sequence.txt. By the calls
 # of both headers it runs edges, and each export at the values of tools/exports.txt and with each pointer null. CC and
 # CXX name the compilers of C and C++. It wants cargo, Python and nothing else. --record writes the digest.
@@ -126,10 +126,15 @@ at="the header by another compiler"
 echo '#undef __GNUC__' > "$out/other.h"
 more="-std=c11 -fshort-enums"
 for name in stdio stddef stdint stdbool string; do more="$more -include $name.h"; done
+guided='read abcdef
+took 8, read hello
+no room for mail
+port 53: query
+port 54: get'
 for each in "$compiler $more -include $out/other.h" tcc; do
     command -v "${each%% *}" > /dev/null || { lacks tcc "the header by it isn't"; continue; }
     $each -I "$here" "$here/programs/guide.c" "$library" -o "$out/program"
-    [ "$("$out/program")" = "read abcdef" ] || fail "$each: guide.c"
+    [ "$("$out/program")" = "$guided" ] || fail "$each: guide.c"
     $each -I "$here" "$out/layouts.c" -o "$out/program"
     "$out/program" | cmp - "$out/layouts.rs"
 done
@@ -143,10 +148,17 @@ else
 fi
 
 at="an example"
-for each in stream reassembly guide; do
+for each in stream reassembly guide frames; do
     "$compiler" -std=c11 -O2 $warnings $sanitizers -I "$here" "$here/programs/$each.c" "$library" -o "$out/$each"
     "$out/$each"
 done
+# programs/tcp.sh runs this one.
+if [ "$(uname)" = Linux ]; then
+    for each in "$compiler" gcc clang; do
+        command -v "$each" > /dev/null || continue
+        "$each" -std=c11 -O2 $warnings -I "$here" "$here/programs/tcp.c" "$library" -o "$out/tcp"
+    done
+fi
 at="sizes: a struct has other bytes than docs/C.md says: sh c/sizes.sh"
 sh "$here/sizes.sh" > "$out/sizes"
 # Without clang the last column is unknown.
@@ -198,7 +210,7 @@ at="duties.c"
 echo '#include "net_base.h"
 void net_base_broken(uint32_t duty, const char *name, const char *argument) { (void)name, (void)argument; if (duty) __builtin_trap(); }' \
     > "$out/broken.c"
-for each in programs/stream programs/reassembly duties; do
+for each in programs/stream programs/reassembly programs/frames duties; do
     broken="$out/broken.c"
     [ $each != duties ] || broken=
     "$compiler" -std=c11 -O2 $warnings -I "$here" "$here/$each.c" $broken "$target/check/release/libnet_base.a" -o "$out/program"
@@ -263,7 +275,7 @@ if command -v meson > /dev/null && command -v ninja > /dev/null; then
     mkdir -p "$out/mesons/subprojects"
     cp "$out/plain.c" "$out/mesons/my.c"
     ln -s "$here/.." "$out/mesons/subprojects/net-base"
-    { echo "project('my', 'c')" && sed -n "s/^    \(net_base = dependency\|executable(\)/\1/p" "$here/../docs/C.md"; } \
+    { echo "project('my', 'c')" && sed -n "s/^#     \(net_base = dependency\|executable(\)/\1/p" "$here/../meson.build"; } \
         > "$out/mesons/meson.build"
     { meson setup "$out/mesons/built" "$out/mesons" && ninja -C "$out/mesons/built"; } > "$out/said" 2>&1 ||
         { cat "$out/said"; exit 1; }
@@ -277,10 +289,10 @@ mkdir -p "$out/rustc/c" "$out/rustc/rust/net-tcp"
 cp -R "$here/src" "$out/rustc/c"
 cp -R "$here/../rust/src" "$out/rustc/rust"
 cp -R "$here/../rust/net-tcp/src" "$out/rustc/rust/net-tcp"
-sed -n 's/^    \(rustc .*\)/\1/p' "$here/../docs/C.md" > "$out/rustc/lines"
+sed -n 's/^#     \(rustc .*\)/\1/p' "$here/../meson.build" > "$out/rustc/lines"
 (cd "$out/rustc" && sh -e lines)
 "$compiler" -I "$here" "$here/programs/guide.c" "$out/rustc/c/target/libnet_base.a" -o "$out/program"
-[ "$("$out/program")" = "read abcdef" ]
+[ "$("$out/program")" = "$guided" ]
 
 at="edges.c"
 # Also by the calls of net_bound.h, and over a library with debug assertions, which tell of a pointer to nothing that is

@@ -1,8 +1,7 @@
 #!/bin/sh
 # Prints how many bytes each struct of net_bound.h has that a program keeps: sh c/sizes.sh [LIBRARY]. Of 64 bits they
 # are those of this machine, of 32 bits those of a Cortex-M4, by clang or GCC; where there is none, a dash. c/run.sh compares
-# docs/C.md with it. Of a LIBRARY for a Cortex-M4 it also prints the code that a linker takes of the calls of each task,
-# and the largest functions of the last one, a connection.
+# docs/C.md with it. Of a LIBRARY for a Cortex-M4 it also prints the code that a linker takes of the calls of each task.
 set -eu
 here=$(cd "$(dirname "$0")" && pwd)
 kept="net_bound_ring net_bound_packets net_base_packet_slot net_base_run net_bound_fragments net_bound_finite_receiver
@@ -41,6 +40,4 @@ done
             "$folder/start.c" "$1" -o "$folder/task" 2> "$folder/said"
         echo "code of $task: $(arm-none-eabi-size -A "$folder/task" | awk '/^\.(text|rodata)/ { sum += $2 } END { print sum }')"
     done
-    arm-none-eabi-nm -C -S -t d --size-sort -r "$folder/task" | grep net_base_ | head -n 7 |
-        sed -E 's/^\w+ 0*(\w+) . ([a-z_]+::)*(.*)/function \3: \1/; s/net_base_[0-9]+_/net_base_/'
 }

@@ -41,7 +41,7 @@ MARK = r"^    #\[must_use\]\n(?=    pub fn "
 # A file of it, a pattern in it, what replaces it, and how often it is found there.
 CHANGES = [
     # Storage is that of the crate `managed`, and nothing else becomes a ring by `into`.
-    ("storage/managed.rs", r"^#\[cfg.*?^(/// A list.*?)^impl<T> Storage<T> for &mut .*\Z", r"\1" + MANAGED, 1),
+    ("storage/managed.rs", r"^#\[cfg.*?^(/// The memory of a ring.*?)^impl<T> Storage<T> for &mut .*\Z", r"\1" + MANAGED, 1),
     ("storage/ring_buffer.rs", r"^#\[cfg\(feature = \"alloc\"\)\]\nuse alloc::vec::Vec;\n(.*?)^impl<'a, T> From<&.*?(?=^/// Resets each)",
      r"\1", 1),
     # What is printed, and what smoltcp's tests look at.

@@ -22,7 +22,7 @@ docs/PROVED.md, `> ..`, have to be in a doc comment of crates/*/src.
 
 On Rust's pages each word of a guarantee has to be a public item's, or on docs/CONTRACTS.md; a law has its page's name.
 
-No sentence has more than LONGEST words, and a page with a word of the guide's glossary leads to it.
+No sentence has more than LONGEST words, and a page with a word of docs/README.md's glossary leads to it.
 """
 
 import functools
@@ -42,7 +42,7 @@ SOURCES = [*(f"{folder}/**/*" for folder in "crates overlay compare rust c tools
 ELSEWHERE = set("""
     vTaskNotifyGiveFromISR ulTaskNotifyTake taskENTER_CRITICAL taskENTER_CRITICAL_FROM_ISR
     MODULE axioms nat __builtin_add_overflow int32_t spsc defmt Format Debug2Format HOLE
-    c.storage-1.given time_t VecInner Cursor ANTT iface send_with yml __aeabi_memclr8
+    TcpSeqNumber Interface int8_t c.storage-1.given time_t VecInner Cursor ANTT iface send_with yml
 """.split())
 LONGEST = 30
 NAME = re.compile(r"[A-Za-z_][A-Za-z0-9_]*")
@@ -233,10 +233,10 @@ def clear(page, text):
         if len(words) > LONGEST:
             yield end.start(), f"a sentence of {len(words)} words: {' '.join(words[:6])} .."
         begin = end.end()
-    glossary = (ROOT / "docs/GUIDE.md").read_text().split("\n## Words\n")[1]
+    glossary = (ROOT / "docs/README.md").read_text().split("\n## Words\n")[1]
     words = [it for it in re.findall(r"^\| ([a-z][\w ]*\w)", glossary, re.M) if re.search(rf"\b{it}\b", prose)]
     if words and not re.search("#words|glossary|^## Words", text, re.M):
-        yield 0, f"no link to docs/GUIDE.md#words, which explains: {', '.join(words)}"
+        yield 0, f"no link to docs/README.md#words, which explains: {', '.join(words)}"
 
 
 LAWS = """# Laws

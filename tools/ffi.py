@@ -37,7 +37,6 @@ CONFIG = ROOT / "c/net_base.pc"
 ABI = ROOT / "c/abi.txt"
 # Modules whose sections come first, by task.
 FIRST = ["refusals", "ring", "packets", "fragments", "parts_sum", "finite_receiver", "receiving_end", "sending_end"]
-PAGE = ROOT / "docs/C.md"
 TEMPLATE = ROOT / "tools/parts/net_base.h.in"
 WIDTH = 100
 C_TYPES = {"usize": "size_t", "bool": "bool"}
@@ -52,8 +51,9 @@ STATUS = "Status"
 COMMENTS = {name: re.sub("^/// ?", "", doc, flags=re.M) for doc, name in re.findall(
     r"((?:^///.*\n)+)^pub type (\w+Status) = u32;", (EXPORTS / "src/refusals.rt").read_text(), flags=re.M)}
 ALIASES = {name: " ".join(doc.partition("\n\n")[0].split()) for name, doc in COMMENTS.items()}
-MEANT = {(name, f"NET_BASE_{status}"): f"{words[0].upper()}{words[1:]}" for name, doc in COMMENTS.items()
-         for status, words in re.findall(r"^- `([A-Z_]+)`: (.*)$", doc, flags=re.M)}
+MEANT = {(name, f"NET_BASE_{status}"): " ".join(f"{words[0].upper()}{words[1:]}".split())
+         for name, doc in COMMENTS.items()
+         for status, words in re.findall(r"^- `([A-Z_]+)`: (.*(?:\n  .*)*)$", doc, flags=re.M)}
 ANSWERS = {name: re.findall(r"`([A-Z_]+)`", doc) for name, doc in ALIASES.items()}
 REFUSED_FOR_NULL = {name for name, doc in ALIASES.items() if "`REFUSED` for null alone" in doc}
 C_TYPES |= {name: f"enum net_base_{re.sub('Status$', '', name).lower()}_status" for name in ANSWERS}
@@ -291,9 +291,18 @@ def plain_text(lines):
     return re.sub(r"\[(`[^`]*`)\](?:\([^)]*\))?", r"\1", "\n".join(lines))
 
 
+# Words of other crates' comments, as expressions, and what C is told in place of them.
+OTHERWISE = {r",\s+and\s+is\s+0\s+if\s+the\s+head\s+is\s+canonical": "",
+             r"\bA\s+held\s+run,\s+by\s+absolute\s+positions":
+             "A waiting range, or a block of an acknowledgement, by positions of the stream",
+             r"\bheld\s+runs\b": "waiting ranges"}
+
+
 def c_text(lines, structs):
     """A doc comment with the words of C."""
     text = c_limits(plain_text(lines))
+    for said, instead in OTHERWISE.items():
+        text = re.sub(said, instead, text)
     text = re.sub(r"\n\n# (\w+)\n\n(.)", lambda it: f" {it[1]}: {it[2].lower()}", text)
     text = re.sub(r"\b(\w+)\.len\(\)", r"\1_length", text).replace("`usize`", "`size_t`")
     return re.sub(r"`(\w+)`", lambda it: f"`{c_struct(it[1])}`" if it[1] in structs else it[0], text)

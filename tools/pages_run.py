@@ -22,8 +22,8 @@ sys.dont_write_bytecode = True
 from parts import ROOT
 
 # The pages, and where the commands of each are run, unless they name that folder.
-PAGES = {"README.md": ".", "rust/README.md": "rust", "rust/net-tcp/README.md": "rust/net-tcp", "docs/GUIDE.md": ".", "docs/C.md": ".", "docs/CONTRACTS.md": ".",
-         "docs/BENCH.md": ".", "overlay/README.md": "."}
+PAGES = {"README.md": ".", "rust/README.md": "rust", "rust/net-tcp/README.md": "rust/net-tcp", "overlay/README.md": ".",
+         **{f"docs/{name}.md": "." for name in "GUIDE QUIC TCP C PROVED CONTRACTS BENCH DIFFERENCES".split()}}
 FIRST = r"cd|cargo|cc|sh|rt|rustup|python3|pkg-config|arm-none-eabi-gcc|echo|\.ci/run"
 WORDS = re.compile(rf"\(?(?:[A-Z_]+=\S+ )?(?:{FIRST})(?= |$)")
 
@@ -42,13 +42,11 @@ ELSEWHERE = {
     "sh c/targets.sh": EMULATORS,
     "sh c/targets.sh --table": EMULATORS,
     "sh examples/endpoint/run.sh": "it wants a TUN device, and takes minutes",
-    "cargo cinstall": "it wants cargo-c",
+    "sh c/programs/tcp.sh": "it wants a TUN device",
     "rt lemma ..": "a reader gives the words",
     "rt check": "a reader is in a crate's folder",
     "rt version": "it proves nothing",
     "rustup target add": TARGET,
-    "sh rust/kit.sh FOLDER TARGET": TARGET,
-    "(cd c && cargo build --release --target ..": TARGET,
     "(cd c && cargo build --profile small --target ..": TARGET,
     "arm-none-eabi-gcc ..": TARGET,
     "sh rust/examples/cortex_m/run.sh": TARGET,

@@ -28,7 +28,7 @@ raw! {
     SenderHead { first_unacknowledged: u64, place: [usize; 2] }
     FiniteSenderHead { sender: SenderHead, closed: [u64; 3] }
     ScoreboardHead { base: u64, reported: [usize; 2] }
-    LossRecovery { until: [u64; 13], duplicates: usize, has_probe: [u8; 2] }
+    LossRecovery { until: [u64; 13], duplicates: usize, has_probe: [u8; 3] }
     BufferHead { scoreboard: ScoreboardHead, recovery: LossRecovery }
     RetransmissionTimer { srtt_8: [u64; 11], has_estimate: [u8; 6] }
     SendingHead { buffer: BufferHead, timer: RetransmissionTimer, peer_window: [u64; 5], segment_size: usize, no_delay:

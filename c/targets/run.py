@@ -382,7 +382,7 @@ def tests(programs, generated, options):
     if programs.run("hosted", [C / "hosted.c"]) != (C / "hosted.stdout").read_text():
         raise Failed("hosted.c prints something else than hosted.stdout")
     done.append("hosted.c as it should")
-    for name in ("stream", "reassembly") * has_room:
+    for name in ("stream", "reassembly", "frames") * has_room:
         if not programs.run(name, [C / f"programs/{name}.c"]).startswith(f"{name}: "):
             raise Failed(f"programs/{name}.c fails")
         done.append(f"{name}.c")
@@ -441,7 +441,8 @@ def figures_of_parts(programs):
     sizes = re.findall(r"^\| `(\w+)` \| (\d+) \| (\d+) \|$", said, flags=re.M)
     found = {f"`{name}`": {"64 bits": wide, "Cortex-M4": narrow} for name, wide, narrow in sizes}
     ram = {name: int(narrow) for name, _, narrow in sizes}
-    ram["both_ends"] = ram["net_bound_receiving_end"] + ram["net_bound_sending_end"]
+    ram["both_ends"] = sum(ram[name] for name in (
+        "net_bound_receiving_end", "net_bound_sending_end", "net_base_answer_limit"))
     for (key, (name, kept)), code in zip(PARTS.items(), codes, strict=True):
         found[key] = {"RAM": kept.format(**ram), "Code": f"{int(code):,}", "Instructions": f"{rounds[name]:,}"}
     source = programs.folder / "byte_ring_size.c"
@@ -449,8 +450,6 @@ def figures_of_parts(programs):
     found["copy `byte_ring.h`"] = {"RAM": str(ram["byte_ring"] - 256),
                                    "Code": str(code_size(programs.way, programs.compiled(source, ["-Os"]))),
                                    "Instructions": str(rounds["byte_ring.h: a byte in and out"])}
-    for name, size in re.findall(r"^function (\S+): (\d+)$", said, flags=re.M):
-        found[f"`{name}`"] = {"Bytes": f"{int(size):,}"}
     for name, (most, average) in longest(programs).items():
         found[f"`{name}`"] = {"Most": f"{most:,}", "On average": f"{average:,}"}
     return found

@@ -34,6 +34,11 @@ impl Assembler {
         Self::default()
     }
 
+    /// Becomes that of another stream.
+    pub(crate) fn reinit(&mut self) {
+        *self = Self::default();
+    }
+
     pub(crate) fn ensure_ordering(&mut self, ordered: bool) -> Result<(), IllegalOrderedRead> {
         self.is_unordered |= !ordered;
         if ordered && self.is_unordered {
@@ -69,11 +74,6 @@ impl Assembler {
             self.put(part.start, bytes.slice(index(part.start)..index(part.end)), datagram);
         }
         Ok(())
-    }
-
-    /// Discards all that waits, and goes on at a position.
-    pub(crate) fn set_bytes_read(&mut self, new: u64) {
-        self.bytes_read = new;
     }
 
     pub(crate) fn bytes_read(&self) -> u64 {

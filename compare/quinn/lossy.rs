@@ -6,7 +6,7 @@ use std::{collections::VecDeque, ops::Range};
 
 use super::*;
 
-type Packet = (Instant, Option<EcnCodepoint>, Vec<u8>);
+type Packet = (Instant, Option<EcnCodepoint>, BytesMut);
 
 /// One direction of a path: of a hundred packets so many are lost or late, and 30 of those of a burst are lost.
 struct Path {
@@ -107,9 +107,9 @@ struct Case {
 
 impl Case {
     fn run(&self, seed: u64) {
-        let mut pair = Pair::default();
-        // The client's pacer begins at the time of the machine. With this it doesn't depend on that.
-        pair.time += Duration::from_secs(5);
+        let mut config = EndpointConfig::default();
+        config.rng_seed(Some([seed as u8; 32]));
+        let mut pair = Pair::new(Arc::new(config), server_config());
         let (client, server) = pair.connect();
         pair.latency = Duration::from_millis(10);
         let Case { loss, late, burst, .. } = self;

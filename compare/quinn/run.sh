@@ -1,5 +1,5 @@
 #!/bin/sh
-# Builds quinn-proto 0.9.2, as Debian 12 has it, twice: as it is, and with types over net-base's `StreamRanges` and
+# Builds quinn-proto 0.11.9, as Debian 13 has it, twice: as it is, and with types over net-base's `StreamRanges` and
 # `SendRanges` in the place of its `Assembler` and `SendBuffer` (assembler.rs and send_buffer.rs beside this):
 #
 #     sh compare/quinn/run.sh --sample   quinn's tests, and transfers over a path that loses, which must be equal
@@ -7,9 +7,9 @@
 #     sh compare/quinn/run.sh --speed    the two types of both by themselves, and rings: tables of times, of instructions
 #                                        by callgrind, and of memory, in some minutes
 #
-# quinn's sources and what they depend on are Debian's, and it installs them if it can. All that it builds is in a
-# folder that goes when it ends. Status 1 if something fails, and 2 if the machine has no such packages. TERM ends all
-# of it.
+# quinn's sources and what they depend on are downloaded from Debian, and not installed. They stay in $CARGO_TARGET_DIR,
+# if that is set. All else is in a folder that goes when it ends. Status 1 if something fails, and 2 if they can't be
+# had. TERM ends all of it.
 set -eu
 here=$(cd "$(dirname "$0")" && pwd)
 name=quinn
@@ -21,12 +21,8 @@ case "${1-}" in
     *) echo "usage: sh run.sh --sample|--runs|--speed" >&2; exit 1 ;;
 esac
 
-registry=/usr/share/cargo/registry
-for crate in quinn-proto-0.9.2 assert_matches-1.5.0 hex-literal-0.3.4 lazy_static-1.4.0 tracing-subscriber-0.3.16; do
-    want "$registry/$crate" librust-quinn-proto-dev librust-assert-matches-dev librust-hex-literal-dev \
-        librust-lazy-static-dev librust-tracing-subscriber-dev
-done
-want /usr/bin/openssl openssl
+crates librust-quinn-proto-dev librust-assert-matches-dev librust-hex-literal-dev librust-lazy-static-dev \
+    librust-rcgen-dev librust-tracing-subscriber-dev
 
 # Changes a file by a command of sed, or ends all if the file lacks what that looks for.
 change() {
@@ -35,22 +31,12 @@ change() {
     cp "$out/changed" "$1"
 }
 
-# Makes the key and the certificate of a server with these names, as lib.rs of rcgen includes them.
-certify() {
-    printf '%s\n' '[req]' 'distinguished_name = subject' 'prompt = no' 'x509_extensions = all' '[subject]' \
-        'CN = test' '[all]' "subjectAltName = $2" > "$out/names"
-    guarded openssl req -x509 -newkey ec -pkeyopt ec_paramgen_curve:P-256 -nodes -config "$out/names" \
-        -keyout "$out/key" -outform DER -out "$out/rcgen/$1.der" 2> /dev/null
-    guarded openssl pkcs8 -topk8 -nocrypt -in "$out/key" -outform DER -out "$out/rcgen/$1.key"
-}
-
-# Makes a package of quinn's sources, with the transfers among its tests.
+# Makes a package of quinn's sources, with the transfers among its tests. Debian hasn't what tests it in browsers.
 copy() {
-    cp -r "$registry/quinn-proto-0.9.2" "$out/$1"
+    cp -r "$registry/quinn-proto-0.11.9" "$out/$1"
     cp "$here/lossy.rs" "$out/$1/src/tests"
     echo 'mod lossy;' >> "$out/$1/src/tests/mod.rs"
-    change "$out/$1/Cargo.toml" "s/^name = \"quinn-proto\"/name = \"$1\"/"
-    printf '\n[dev-dependencies.rcgen]\npath = "../rcgen"\n' >> "$out/$1/Cargo.toml"
+    change "$out/$1/Cargo.toml" "s/^name = \"quinn.proto\"/name = \"$1\"/; /wasm-bindgen-test/,/^\$/d"
 }
 
 # Puts a type over net-base in the place of quinn's, with quinn's tests of it. These look at fields, which are calls
@@ -103,21 +89,17 @@ pair() {
     cp "$out/original/src/range_set/btree_range_set.rs" "$out/speed/src/range_set.rs"
     for file in assembler.rs send_buffer.rs; do
         cp "$out/original/src/connection/$file" "$out/speed/src/quinn"
+        change "$out/speed/src/quinn/$file" 's/pub(super)/pub(crate)/'
         cp "$here/$file" "$out/speed/src/ported"
     done
 }
 
-# Makes a workspace of all, and of what it wants that Debian hasn't.
+# Makes a workspace of all.
 prepare() {
-    mkdir -p "$out/.cargo" "$out/rcgen"
+    mkdir -p "$out/.cargo"
     printf '[source.crates-io]\nreplace-with = "debian"\n[source.debian]\ndirectory = "%s"\n' "$registry" \
         > "$out/.cargo/config.toml"
     printf '[workspace]\nresolver = "2"\nmembers = ["original", "ported", "speed"]\n' > "$out/Cargo.toml"
-    printf '[package]\nname = "rcgen"\nversion = "0.10.0"\nedition = "2021"\n[lib]\npath = "lib.rs"\n' \
-        > "$out/rcgen/Cargo.toml"
-    cp "$here/rcgen.rs" "$out/rcgen/lib.rs"
-    certify one DNS:localhost
-    certify many "DNS:localhost$(seq -f ,DNS:foo_%g 0 999 | tr -d '\n')"
     copy original
     port
     pair
@@ -200,7 +182,7 @@ run_with() {
             let was_pending = stream.is_pending();\
             self.unacked_data -= stream.pending.ack(frame.offsets.clone());\
             if !was_pending \&\& stream.is_pending() {\
-                push_pending(\&mut self.pending, id, stream.priority);\
+                self.pending.push_pending(id, stream.priority);\
             }/'
     fi
     change ported/src/connection/send_buffer.rs "s/^const MOST_RUNS: usize = .*/const MOST_RUNS: usize = $1;/"

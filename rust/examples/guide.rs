@@ -1,26 +1,20 @@
-//! The tasks of docs/GUIDE.md of the repository, whose page quotes them: `cargo run --example guide -- TASK`, where
-//! TASK is ring, packets, receiver, quic, fragments, interrupt or sizes.
-use std::collections::BTreeMap;
-
-use net_base::finite::{FiniteReceiver, SendBuffer, SendRanges, StreamRanges};
-use net_base::receiver::Receiver;
-use net_base::storage::{FragmentBuffer, PacketBuffer, PacketMetadata, RingBuffer, Run, SplitRing};
-use net_base::time::{Duration, Instant};
-
-fn text(bytes: &[u8]) -> &str {
-    core::str::from_utf8(bytes).unwrap_or("?")
-}
+//! The tasks of docs/GUIDE.md, docs/QUIC.md and docs/DIFFERENCES.md of the repository, which quote them: `cargo run
+//! --example guide -- TASK`, where TASK is ring, packets, receiver, sender, quic, fragments, interrupt, sizes or faults.
 
 fn ring() {
+    use net_base::storage::RingBuffer;
+
     let mut storage = [0u8; 8];
     let mut ring = RingBuffer::new(&mut storage[..]);
     let taken = ring.enqueue_slice(b"hello, world"); // there is room for eight
     let mut into = [0; 5];
     let count = ring.dequeue_slice(&mut into);
-    println!("took {taken}, read {:?}, {} left", text(&into[..count]), ring.len());
+    println!("took {taken}, read {}, {} left", into[..count].escape_ascii(), ring.len());
 }
 
 fn packets() {
+    use net_base::storage::{PacketBuffer, PacketMetadata};
+
     // Two packets at most, of 64 bytes together; the header of each is a port.
     let (mut slots, mut bytes) = ([PacketMetadata::EMPTY; 2], [0u8; 64]);
     let mut queue = PacketBuffer::new(&mut slots[..], &mut bytes[..]);
@@ -31,11 +25,13 @@ fn packets() {
         }
     }
     while let Ok((port, payload)) = queue.dequeue() {
-        println!("port {port}: {:?}", text(payload));
+        println!("port {port}: {}", payload.escape_ascii());
     }
 }
 
 fn receiver() {
+    use net_base::receiver::Receiver;
+
     let mut storage = [0u8; 16];
     let mut receiver = Receiver::<2>::new(&mut storage[..]); // at most two ranges may wait
     let mut recent = [0; 2]; // where the newest ranges begin
@@ -49,10 +45,32 @@ fn receiver() {
     }
     let mut into = [0; 16];
     let count = receiver.read(&mut into);
-    println!("read {:?}, window {}", text(&into[..count]), receiver.window());
+    println!("read {}, window {}", into[..count].escape_ascii(), receiver.window());
+}
+
+fn sender() {
+    use net_base::finite::SendBuffer;
+    use net_base::storage::Run;
+
+    let (mut storage, mut acked, mut sent) = ([0u8; 16], [Run::EMPTY; 4], [Run::EMPTY; 4]);
+    let mut buffer = SendBuffer::new(&mut storage[..], &mut acked[..], &mut sent[..]);
+    println!("took {}", buffer.write(b"hello, world"));
+    // At most 8 bytes fit into a packet, and the peer has room for all.
+    while let Some(range) = buffer.next(u64::MAX, 8) {
+        println!("send {range:?}: {}", buffer.bytes(range.clone()).front.escape_ascii());
+        assert!(buffer.mark(range));
+    }
+    // The second packet is acknowledged, and the first one is lost.
+    buffer.acknowledge(8..12).expect("it was sent");
+    assert!(buffer.lose(0..8));
+    println!("again {:?}", buffer.next(u64::MAX, 8));
 }
 
 fn quic() {
+    use net_base::finite::{SendRanges, StreamRanges};
+    use net_base::storage::Run;
+    use std::collections::BTreeMap;
+
     let written = b"the quick brown fox";
     let [acked, sent, waiting] = &mut [[Run::EMPTY; 8]; 3]; // room to remember eight ranges in each
     let mut sending = SendRanges::new(acked, sent);
@@ -65,11 +83,12 @@ fn quic() {
     while !sending.is_done() {
         let mut acknowledged = vec![];
         while let Some(range) = sending.next(max_stream_data, 8) {
-            let (start, end) = (range.start, range.end.min(19));
-            let (data, fin) = (&written[start as usize..end as usize], end < range.end);
+            let fin = sending.has_fin(&range);
+            let (start, end) = (range.start, range.end - u64::from(fin));
+            let data = &written[start as usize..end as usize];
             assert!(sending.mark(range.clone())); // it is in flight
             packet += 1;
-            println!("packet {packet}: {range:?} {:?} fin {fin}", text(data));
+            println!("packet {packet}: {range:?} \"{}\" fin {fin}", data.escape_ascii());
             if packet == 2 {
                 continue; // it is lost
             }
@@ -95,10 +114,12 @@ fn quic() {
     }
     let read = chunks.range(..receiving.next()).map(|chunk| *chunk.1).collect::<Vec<_>>().concat();
     receiving.read(read.len());
-    println!("read {:?}, all of it: {}", text(&read), receiving.has_read_all());
+    println!("read \"{}\", all of it: {}", read.escape_ascii(), receiving.has_read_all());
 }
 
 fn interrupt() {
+    use net_base::storage::SplitRing;
+
     static RECEIVED: SplitRing<64> = SplitRing::new();
 
     // The interrupt of a UART calls this. A byte for which there is no room is lost.
@@ -110,10 +131,13 @@ fn interrupt() {
     // The main loop.
     let mut into = [0; 16];
     let count = RECEIVED.read(&mut into);
-    println!("received {:?}", text(&into[..count]));
+    println!("received {}", into[..count].escape_ascii());
 }
 
 fn fragments() {
+    use net_base::storage::FragmentBuffer;
+    use net_base::time::{Duration, Instant};
+
     let (mut bytes, now) = ([0u8; 1_500], Instant::ZERO);
     let mut packet = FragmentBuffer::<4>::new(&mut bytes[..], now + Duration::from_secs(60));
     // The last fragment comes first.
@@ -121,14 +145,18 @@ fn fragments() {
         [(16, "end", true), (0, "12345678", false), (8, "abcdefgh", false)]
     {
         packet.add_fragment(offset, data.as_bytes(), is_last).expect("it fits");
-        println!("offset {offset}: {:?}", packet.assemble().map(text));
+        let whole = packet.assemble().map(|it| it.escape_ascii().to_string());
+        println!("offset {offset}: {whole:?}");
     }
-    // An attack, which RFC 5722 has a receiver drop: ask before you add.
+    // Fragments that overlap are an attack. IPv6 drops the packet (RFC 5722): ask before you add.
     println!("overlaps {}, differs {}", packet.overlaps(8, 4), packet.differs(8, b"EVIL"));
     println!("in time: {}", !packet.is_expired(now + Duration::from_secs(5)));
 }
 
 fn sizes() {
+    use net_base::finite::{FiniteReceiver, SendBuffer, SendRanges, StreamRanges};
+    use net_base::receiver::Receiver;
+
     println!("Receiver {} and {}", size_of::<Receiver<'_, 4>>(), size_of::<Receiver<'_, 32>>());
     let finite = (size_of::<FiniteReceiver<'_, 4>>(), size_of::<FiniteReceiver<'_, 32>>());
     println!("FiniteReceiver {} and {}", finite.0, finite.1);
@@ -137,15 +165,36 @@ fn sizes() {
     println!("SendBuffer {}", size_of::<SendBuffer<'_>>());
 }
 
+fn faults() {
+    use net_base::storage::{PacketBuffer, PacketMetadata}; // or smoltcp::storage
+
+    let (mut slots, mut bytes) = ([PacketMetadata::EMPTY; 2], [0; 4]);
+    let mut queue = PacketBuffer::new(&mut slots[..], &mut bytes[..]);
+    queue.enqueue(2, "first").expect("it fits");
+    queue.enqueue(1, "second").expect("it fits");
+    queue.dequeue().expect("the first one");
+    let before = queue.payload_bytes_count();
+    let is_refused = queue.enqueue(2, "third").is_err();
+    println!("refused {is_refused}, bytes {before} and {}", queue.payload_bytes_count());
+
+    let (mut slots, mut bytes) = ([PacketMetadata::EMPTY; 1], [0; 2]);
+    let mut queue = PacketBuffer::new(&mut slots[..], &mut bytes[..]);
+    queue.enqueue(1, "first").expect("it fits");
+    queue.dequeue().expect("the first one");
+    println!("{:?}", queue.enqueue_with_infallible(2, "second", |room| room.len()));
+}
+
 fn main() {
     match std::env::args().nth(1).as_deref() {
         Some("ring") => ring(),
         Some("packets") => packets(),
         Some("receiver") => receiver(),
+        Some("sender") => sender(),
         Some("quic") => quic(),
         Some("fragments") => fragments(),
         Some("interrupt") => interrupt(),
         Some("sizes") => sizes(),
-        _ => println!("guide ring | packets | receiver | quic | fragments | interrupt | sizes"),
+        Some("faults") => faults(),
+        _ => println!("guide ring | packets | receiver | sender | quic | fragments | interrupt | sizes | faults"),
     }
 }

@@ -65,14 +65,11 @@ impl Sender<'_> {
     fn send(&mut self, path: &mut Path, now: u64) {
         while self.ranges.len() < WINDOW {
             let Some(range) = self.stream.next(self.max_stream_data, SIZE) else { break };
-            // The end has the number after the last byte's.
-            let end = range.end.min(self.data.len() as u64);
+            let fin = self.stream.has_fin(&range);
+            let end = range.end - u64::from(fin);
             let data = self.data[range.start as usize..end as usize].to_vec();
             let number = self.next_number;
-            path.send(
-                now,
-                &Packet::Stream { number, offset: range.start, data, fin: end < range.end },
-            );
+            path.send(now, &Packet::Stream { number, offset: range.start, data, fin });
             assert!(self.stream.mark(range.clone()), "it was written");
             self.ranges.insert(number, range);
             self.next_number += 1;

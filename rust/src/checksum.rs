@@ -1,5 +1,6 @@
-//! The Internet checksum of IP, ICMP, UDP and TCP (RFC 1071), its update (RFC 1624), and the sum of a message in parts,
-//! as a pseudo-header, a header and data. (Not in smoltcp's lowest layer.)
+//! The Internet checksum of IP, ICMP, UDP and TCP (RFC 1071), and its update (RFC 1624).
+//!
+//! [`PartsSum`] sums a message in parts, such as a pseudo-header, a header and data. (smoltcp has this elsewhere.)
 //!
 //! ```
 //! use net_base::checksum::{checksum, is_valid, updated_checksum, PartsSum};

@@ -1,7 +1,8 @@
-//! What features set, by smoltcp's name.
+//! The number of ranges that Cargo features set, under smoltcp's name.
 
-/// The greatest number of the features `assembler-max-segment-count-..`, or 4. A type has so many runs if it is its
-/// `N`. Where `N` isn't named it is 4, whatever features are on, so that no crate changes the types of another one.
+/// The greatest number of the features `assembler-max-segment-count-..` that are on, or 4. Only a type that names it
+/// as its `N` has as many ranges. Without an `N` a type has 4, whatever features are on, so that no crate changes the
+/// types of another one.
 ///
 /// ```
 /// # use net_base::config::ASSEMBLER_MAX_SEGMENT_COUNT;

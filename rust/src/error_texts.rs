@@ -21,7 +21,7 @@ macro_rules! errors {
             all(Full, "buffer full", "Full");
             all(Empty, "buffer empty", "Empty");
             all(TooManyHolesError, "too many holes", "TooManyHolesError");
-            all(NotSent, "the range ends above what was sent", "NotSent");
+            all(NotSent, "the range ends above what was sent: pass a range that was marked", "NotSent");
             $(for (error, text) in [$(($type::$variant, $text)),*] {
                 all(error, text, match error { $($type::$variant => stringify!($variant)),* });
             })*
@@ -31,18 +31,24 @@ macro_rules! errors {
 
 errors! {
     FragmentError {
-        TooLong: "the fragment ends past the buffer",
-        TooManyHoles: "too many holes",
-        OtherSize: "the fragment contradicts the packet's size"
+        TooLong: "the fragment ends past the buffer: drop it",
+        TooManyHoles: "too many holes: drop the fragment",
+        OtherSize: "the fragment contradicts the packet's size: drop it"
     }
     AcceptError {
-        NoBytes: "the fragment has no bytes",
-        NoSlot: "the table has no slots",
-        OtherBytes: "the fragment contradicts bytes that have arrived",
-        TooLong: "the fragment ends past the buffer",
-        TooManyHoles: "too many holes",
-        OtherSize: "the fragment contradicts the packet's size"
+        NoBytes: "the fragment has no bytes: drop it",
+        NoSlot: "the table has no slots: make it with at least one",
+        OtherBytes: "the fragment contradicts bytes that have arrived: drop it",
+        TooLong: "the fragment ends past the buffer: drop it",
+        TooManyHoles: "too many holes: drop the fragment",
+        OtherSize: "the fragment contradicts the packet's size: drop it"
     }
-    FiniteError { TooManyHoles: "too many holes", OtherEnd: "the end contradicts what has arrived" }
-    ReportError { NoBlock: "the block isn't of what was sent", TooManyHoles: "too many holes" }
+    FiniteError {
+        TooManyHoles: "too many holes: the segment must be sent again",
+        OtherEnd: "the end contradicts what has arrived: drop the segment, or in QUIC close the connection"
+    }
+    ReportError {
+        NoBlock: "the block isn't of what was sent: ignore it",
+        TooManyHoles: "too many holes: ignore the block"
+    }
 }

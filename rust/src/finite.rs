@@ -6,7 +6,9 @@
 //! | sending, acknowledged in order | [`FiniteSender`] | |
 //! | sending, acknowledged in any order | [`SendBuffer`] | [`SendRanges`] |
 //!
-//! A *held run* is a range of bytes that waits for those before it.
+//! A *position* is the number of a byte in its stream, 64 bits. The *FIN* has the position after the last byte's. A
+//! *waiting range* (a *run*, or *held*, in names) is a range of bytes that waits for those before it, which are a
+//! *hole*. To *refuse* is to return an error and change nothing.
 //!
 //! ```
 //! use net_base::finite::{FiniteReceiver, FiniteSender};
@@ -49,8 +51,8 @@ impl From<TooManyHolesError> for FiniteError {
 }
 
 impl<'a, const N: usize> FiniteReceiver<'a, N> {
-    /// Returns a receiver of a stream that ends, whose first byte has position 0, with room for `N` held runs. Where
-    /// the type of a variable or a field names no `N` it is 4.
+    /// Returns a receiver of a stream that begins at position 0, with room for `N` waiting ranges: 4 where a variable's
+    /// or a field's type names no `N`.
     ///
     /// ```
     /// # use net_base::finite::FiniteReceiver;
@@ -62,7 +64,7 @@ impl<'a, const N: usize> FiniteReceiver<'a, N> {
         FiniteReceiver::over(storage.into())
     }
 
-    /// Returns a receiver of a stream that ends, whose first byte has position `first`, with room for `N` held runs.
+    /// Returns a receiver of a stream that begins at position `first`, with room for `N` waiting ranges.
     ///
     /// ```
     /// # use net_base::finite::FiniteReceiver;
@@ -74,7 +76,7 @@ impl<'a, const N: usize> FiniteReceiver<'a, N> {
     ///
     /// # Panics
     ///
-    /// Panics if `first` is `u64::MAX`: no number is left for the end.
+    /// Panics if `first` is `u64::MAX`: no stream can end there.
     #[must_use]
     #[track_caller]
     pub fn new_at<S: Into<ManagedSlice<'a, u8>>>(storage: S, first: u64) -> Self {
@@ -83,7 +85,8 @@ impl<'a, const N: usize> FiniteReceiver<'a, N> {
 }
 
 impl<'a> StreamReceiver<'a> {
-    /// Returns a receiver of a stream that begins at position 0, as a stream of QUIC does; nothing has arrived.
+    /// Returns a receiver of a stream that begins at position 0, as QUIC's do; nothing has arrived. `runs` has an
+    /// element for each waiting range.
     ///
     /// ```
     /// # use net_base::finite::StreamReceiver;
@@ -100,7 +103,8 @@ impl<'a> StreamReceiver<'a> {
         StreamReceiver::new_at(storage, runs, 0)
     }
 
-    /// Returns a receiver of a stream that begins at position `first`; nothing has arrived.
+    /// Returns a receiver of a stream that begins at position `first`; nothing has arrived. `runs` has an element for
+    /// each waiting range.
     ///
     /// ```
     /// # use net_base::finite::StreamReceiver;
@@ -112,7 +116,7 @@ impl<'a> StreamReceiver<'a> {
     ///
     /// # Panics
     ///
-    /// Panics if `first` is `u64::MAX`: no number is left for the end.
+    /// Panics if `first` is `u64::MAX`: no stream can end there.
     #[must_use]
     #[track_caller]
     pub fn new_at<S, R>(storage: S, runs: R, first: u64) -> Self
@@ -125,7 +129,9 @@ impl<'a> StreamReceiver<'a> {
 }
 
 impl<'a> StreamRanges<'a> {
-    /// Returns the ranges of a stream that begins at position 0, as a stream of QUIC does; nothing has arrived.
+    /// Returns the ranges of a stream that begins at position 0, as QUIC's do; nothing has arrived. `runs` has an
+    /// element for each waiting range. `capacity` bytes can arrive from the first unread one on: pass `usize::MAX` if
+    /// you enforce the window yourself.
     ///
     /// ```
     /// # use net_base::finite::StreamRanges;
@@ -136,7 +142,7 @@ impl<'a> StreamRanges<'a> {
         StreamRanges::new_at(runs, 0, capacity)
     }
 
-    /// Returns the ranges of a stream that begins at position `first`; nothing has arrived.
+    /// Returns the ranges of a stream that begins at position `first`, as `new` does; nothing has arrived.
     ///
     /// ```
     /// # use net_base::finite::StreamRanges;
@@ -148,7 +154,7 @@ impl<'a> StreamRanges<'a> {
     ///
     /// # Panics
     ///
-    /// Panics if `first` is `u64::MAX`: no number is left for the end.
+    /// Panics if `first` is `u64::MAX`: no stream can end there.
     #[must_use]
     #[track_caller]
     pub fn new_at<R: Into<ManagedSlice<'a, Run>>>(runs: R, first: u64, capacity: usize) -> Self {
@@ -157,31 +163,33 @@ impl<'a> StreamRanges<'a> {
 }
 
 impl<'a> SendRanges<'a> {
-    /// Returns what is known of a stream that begins at position 0, as a stream of QUIC does, to which nothing was
-    /// written. `acknowledged` is room for the ranges that are acknowledged out of order, and `settled` for those that
-    /// were sent after a lost one.
+    /// Returns the ranges of a stream that begins at position 0, as QUIC's do, to which nothing was written.
+    /// `acknowledged` stores ranges that were acknowledged out of order, `sent` those in flight above the first lost
+    /// byte. Both have room for the same number of ranges.
     ///
     /// ```
     /// # use net_base::finite::SendRanges;
     /// # use net_base::storage::Run;
-    /// let (mut acknowledged, mut settled) = ([Run::EMPTY; 2], [Run::EMPTY; 2]);
-    /// assert_eq!(SendRanges::new(&mut acknowledged, &mut settled).numbers_end(), 0);
+    /// let (mut acknowledged, mut sent) = ([Run::EMPTY; 2], [Run::EMPTY; 2]);
+    /// assert_eq!(SendRanges::new(&mut acknowledged, &mut sent).numbers_end(), 0);
     /// ```
     ///
     /// # Panics
     ///
-    /// If one storage has more runs than the other.
+    /// Panics if the storages have different lengths.
     #[must_use]
     #[track_caller]
-    pub fn new<A, D>(acknowledged: A, settled: D) -> Self
+    pub fn new<A, D>(acknowledged: A, sent: D) -> Self
     where
         A: Into<ManagedSlice<'a, Run>>,
         D: Into<ManagedSlice<'a, Run>>,
     {
-        SendRanges::new_at(acknowledged, settled, 0)
+        SendRanges::new_at(acknowledged, sent, 0)
     }
 
-    /// Returns what is known of a stream that begins at position `first`, to which nothing was written.
+    /// Returns the ranges of a stream that begins at position `first`, to which nothing was written. `acknowledged`
+    /// stores ranges that were acknowledged out of order, `sent` those in flight above the first lost byte. Both have
+    /// room for the same number of ranges.
     ///
     /// ```
     /// # use net_base::finite::SendRanges;
@@ -192,21 +200,22 @@ impl<'a> SendRanges<'a> {
     ///
     /// # Panics
     ///
-    /// If one storage has more runs than the other, or `first` is `u64::MAX`: no number is left for the end.
+    /// Panics if the storages have different lengths, or if `first` is `u64::MAX`: no stream can end there.
     #[must_use]
     #[track_caller]
-    pub fn new_at<A, D>(acknowledged: A, settled: D, first: u64) -> Self
+    pub fn new_at<A, D>(acknowledged: A, sent: D, first: u64) -> Self
     where
         A: Into<ManagedSlice<'a, Run>>,
         D: Into<ManagedSlice<'a, Run>>,
     {
-        SendRanges::over_at(acknowledged.into(), settled.into(), first)
+        SendRanges::over_at(acknowledged.into(), sent.into(), first)
     }
 }
 
 impl<'a> SendBuffer<'a> {
-    /// Returns a buffer of a stream that begins at position 0, as a stream of QUIC does, to which nothing was written.
-    /// The storages of runs are those of [`SendRanges::new`].
+    /// Returns the buffer of a stream that begins at position 0, as QUIC's do, to which nothing was written.
+    /// `acknowledged` stores ranges that were acknowledged out of order, `sent` those in flight above the first lost
+    /// byte. Both have room for the same number of ranges.
     ///
     /// ```
     /// # use net_base::finite::SendBuffer;
@@ -216,19 +225,21 @@ impl<'a> SendBuffer<'a> {
     ///
     /// # Panics
     ///
-    /// If one storage of runs has more than the other.
+    /// Panics if `acknowledged` and `sent` have different lengths.
     #[must_use]
     #[track_caller]
-    pub fn new<S, A, D>(storage: S, acknowledged: A, settled: D) -> Self
+    pub fn new<S, A, D>(storage: S, acknowledged: A, sent: D) -> Self
     where
         S: Into<ManagedSlice<'a, u8>>,
         A: Into<ManagedSlice<'a, Run>>,
         D: Into<ManagedSlice<'a, Run>>,
     {
-        SendBuffer::new_at(storage, acknowledged, settled, 0)
+        SendBuffer::new_at(storage, acknowledged, sent, 0)
     }
 
-    /// Returns a buffer of a stream that begins at position `first`, to which nothing was written.
+    /// Returns the buffer of a stream that begins at position `first`, to which nothing was written. `acknowledged`
+    /// stores ranges that were acknowledged out of order, `sent` those in flight above the first lost byte. Both have
+    /// room for the same number of ranges.
     ///
     /// ```
     /// # use net_base::finite::SendBuffer;
@@ -240,16 +251,17 @@ impl<'a> SendBuffer<'a> {
     ///
     /// # Panics
     ///
-    /// If one storage of runs has more than the other, or `first` is `u64::MAX`: no number is left for the end.
+    /// Panics if `acknowledged` and `sent` have different lengths, or if `first` is `u64::MAX`: no stream can end
+    /// there.
     #[must_use]
     #[track_caller]
-    pub fn new_at<S, A, D>(storage: S, acknowledged: A, settled: D, first: u64) -> Self
+    pub fn new_at<S, A, D>(storage: S, acknowledged: A, sent: D, first: u64) -> Self
     where
         S: Into<ManagedSlice<'a, u8>>,
         A: Into<ManagedSlice<'a, Run>>,
         D: Into<ManagedSlice<'a, Run>>,
     {
-        SendBuffer::over_at(storage.into(), acknowledged.into(), settled.into(), first)
+        SendBuffer::over_at(storage.into(), acknowledged.into(), sent.into(), first)
     }
 }
 
@@ -280,7 +292,7 @@ impl<'a> FiniteSender<'a> {
     ///
     /// # Panics
     ///
-    /// Panics if `first` is `u64::MAX`: no number is left for the end.
+    /// Panics if `first` is `u64::MAX`: no stream can end there.
     #[must_use]
     pub fn new_at<S: Into<ManagedSlice<'a, u8>>>(storage: S, first: u64) -> Self {
         FiniteSender::over_at(storage.into(), first)
@@ -323,8 +335,7 @@ impl<R: Storage<Run>> fmt::Debug for StreamRangesOver<R> {
     }
 }
 
-/// The first number that isn't acknowledged, that after the last one, and whether the stream has its end: not the
-/// storage.
+/// Prints `first_number`, `numbers_end` and `is_closed`, and not the storage.
 impl<S: Storage<u8>> fmt::Debug for FiniteSenderOver<S> {
     fn fmt(&self, f: &mut fmt::Formatter) -> fmt::Result {
         f.debug_struct("FiniteSender")

@@ -1,23 +1,23 @@
 //! The data structures inside a network stack: byte rings, packet queues, reassembly of segments that arrive out of
-//! order, retransmission, timers and checksums. Calls are proved for every input that they allow, except for [some
-//! parts](#what-is-proved). None needs a heap. The crate needs Rust 1.85, and a target of 32 or 64 bits.
+//! order, the ranges that a sender has sent, times and checksums. Each function is proved to return and change what its page says, for every input that
+//! the page allows, except for [some parts](#what-is-proved). Nothing here needs a heap. The crate needs Rust 1.85, and
+//! a target of 32 or 64 bits.
 //!
-//! A segment is a position and some bytes. A [`Receiver`](receiver::Receiver) puts segments in order:
+//! A segment is a position and some bytes. A [`FiniteReceiver`](finite::FiniteReceiver) puts the segments of a stream in
+//! order:
 //!
 //! ```
-//! use net_base::receiver::Receiver;
+//! use net_base::finite::FiniteReceiver;
 //!
 //! let mut storage = [0u8; 16];
-//! let mut receiver = Receiver::<2>::new(&mut storage[..]); // at most two ranges may wait
-//! receiver.keep(4, b"ef")?; // it came early, and waits
-//! receiver.keep(8, b"ij")?; // a second range waits
-//! // A third may not: it is refused, and nothing changes.
-//! assert!(receiver.keep(12, b"mn").is_err());
-//! receiver.keep(0, b"abcd")?; // the gap is filled
+//! let mut receiver = FiniteReceiver::<2>::new(&mut storage[..]); // at most two ranges may wait
+//! receiver.keep(4, b"ef", true)?; // the last segment came early, and waits
+//! receiver.keep(0, b"abcd", false)?; // the hole is filled
 //! let mut text = [0; 16];
 //! let count = receiver.read(&mut text);
 //! assert_eq!(&text[..count], b"abcdef");
-//! # Ok::<(), net_base::storage::TooManyHolesError>(())
+//! assert!(receiver.has_read_all());
+//! # Ok::<(), net_base::finite::FiniteError>(())
 //! ```
 //!
 //! A [`SendRanges`](finite::SendRanges) knows which bytes of a QUIC stream are acknowledged, in flight or lost:
@@ -48,6 +48,7 @@
 //! | bytes from an interrupt | [`SplitRing`](storage::SplitRing) |
 //! | a stream out of segments | [`Receiver`](receiver::Receiver) |
 //! | a stream that ends | [`FiniteReceiver`](finite::FiniteReceiver), [`FiniteSender`](finite::FiniteSender) |
+//! | a stream that is acknowledged in any order | [`SendBuffer`](finite::SendBuffer) |
 //! | both sides of a QUIC stream | [`StreamRanges`](finite::StreamRanges), [`SendRanges`](finite::SendRanges) |
 //! | both ends of a TCP connection | the crate `net-tcp`, which is over this one |
 //! | packets out of IP fragments | [`FragmentBuffer`](storage::FragmentBuffer) |
@@ -56,7 +57,8 @@
 //! | checksums, times, random ports | [`checksum`], [`time`], [`rand`] |
 //! | frames from a device | [`Device`](phy::Device) |
 //!
-//! `docs/GUIDE.md` of the repository has a program for each task, and the order of the calls of a TCP.
+//! The page of each type has an example. The repository also has pages with a program for each task: `docs/GUIDE.md`,
+//! `docs/QUIC.md` and `docs/TCP.md`.
 //!
 //! [`storage`], [`time`], [`rand`] and [`phy`] have the names, signatures and behaviour of
 //! [smoltcp](https://github.com/smoltcp-rs/smoltcp) 0.14.0, except where an item says otherwise. Of [`phy`] there are
@@ -66,37 +68,40 @@
 //!
 //! Types have two kinds of constructors:
 //!
-//! - `new` and `new_at` take storage that is lent or owned: a slice, an array, a `Vec` or a `Box`. `new_at` also takes
-//!   the stream's first position.
-//! - `over` and `over_at`, of a type whose name ends in `Over`, take storage of any type, also your own:
-//!   `ReceiverOver::<_, 8>::over([0; 256])`.
+//! - `new` and `new_at` take storage that is lent or owned: a `&mut` slice or array, a `Vec`, or a boxed slice. `new_at`
+//!   also takes the stream's first position.
+//! - `over` and `over_at` take storage of any type, such as an array by value or a type of your own:
+//!   `ReceiverOver::<_, 8>::over([0; 256])`. `Receiver` is short for a [`ReceiverOver`](receiver::ReceiverOver) whose
+//!   storage is lent or owned. Likewise each type has one whose name ends in `Over`.
 //!
-//! `N` is how many ranges may wait. Write it with the type: `Receiver::<8>::new(&mut storage)`. A type that you write
+//! `N` is how many ranges may wait. Write it with the type: `Receiver::<8>::new(&mut storage[..])`. A type that you write
 //! without it, as in `let receiver: Receiver = ..`, has N = 4. A receiver whose `N` is 0 doesn't compile.
 //!
-//! `Assembler` and `Scoreboard` have no storage. Their `new()` always has room for 4 ranges, where smoltcp's follows a
-//! feature. `Assembler::<8>::empty()` has room for 8. A type is `Send` and `Sync` if its storage is.
+//! `Assembler` and `Scoreboard` have no storage. Their `new()` has room for 4 ranges, and `Assembler::<8>::empty()` for
+//! 8. A type is `Send` and `Sync` if its storage is.
 //!
 //! # What is proved
 //!
 //! The source is written in Rattle, which is Rust with a contract for each function. A prover has checked for all
-//! arguments that a body meets its contract. Then a script took the contracts out. A "Source" link opens what is left,
-//! and its first line names the file that has the contracts. A *law* that a page names is a theorem about many calls,
-//! which `docs/laws.md` of the repository explains.
+//! arguments that each body meets its contract. Then a script took the contracts out. A "Source" link opens what is
+//! left, and its first line names the file that has the contracts. A *law* that a page names is a theorem about many
+//! calls, which `docs/laws.md` of the repository explains.
 //!
-//! These parts are tested, and not proved: what is printed, conversions of storage, std's clocks, readers and writers,
-//! the memory ordering of a [`SplitRing`](storage::SplitRing), and the traits and devices of [`phy`].
+//! These parts are tested, and not proved: `Debug`, conversions from slices, arrays, vectors, boxes and numbers, std's
+//! traits such as `Deref`, `Hash`, `Sum`, `Read` and `Write`, std's clocks, the traits and devices of [`phy`], and of a
+//! [`SplitRing`](storage::SplitRing) all but its indices.
 //!
 //! # Panics
 //!
-//! A call panics, in a release build too, if you break what its page requires. Most calls that take a packet, such as
-//! [`keep`](receiver::ReceiverOver::keep), require nothing, so no packet makes them panic. A sum that doesn't fit
-//! panics in every build, unless an item says otherwise.
+//! A call panics only if you break what the section "Panics" of its page says, and then in every build. Most calls that
+//! take data from a packet, such as [`keep`](receiver::ReceiverOver::keep), require nothing, so no packet makes them
+//! panic.
 //!
 //! # Guarantees
 //!
 //! A section of this name, on a function's page, quotes statements of its contract in Rust's words. `old(x)` is x
-//! before the call, and `x` what it is afterwards. Numbers in them have no bound, so sums don't wrap.
+//! before the call, and `x` what it is afterwards. Numbers in them have no bound, so sums don't wrap, and a slice
+//! beyond its list is shorter.
 //! `docs/CONTRACTS.md` of the repository explains the names in them that no call has.
 //!
 //! # Features
@@ -104,9 +109,9 @@
 //! - `std`, on by default: conversions from and to std's clocks, readers and writers, and `alloc`
 //! - `alloc`: storage may own a vector
 //! - `segmentation-offload`: a field of `PacketMeta`
-//! - `assembler-max-segment-count-1`, and others up to 32: the largest one is
-//!   [`ASSEMBLER_MAX_SEGMENT_COUNT`](config::ASSEMBLER_MAX_SEGMENT_COUNT), which is 4 without any. A program can name
-//!   it as `N`.
+//! - `assembler-max-segment-count-1`, and others up to 32, set
+//!   [`ASSEMBLER_MAX_SEGMENT_COUNT`](config::ASSEMBLER_MAX_SEGMENT_COUNT), which a program can name as `N`. The largest
+//!   one counts. Without any the constant is 4. `Assembler::new()` has room for 4 ranges whatever the constant is.
 //!
 //! These features of smoltcp are accepted, and change nothing: `packetmeta-id`, `medium-ethernet`, `medium-ip`,
 //! `proto-ipv4-fragmentation`, `proto-ipv4` and `proto-ipv6`.

@@ -1,6 +1,8 @@
 //! One stream of bytes out of segments that arrive in any order: [`Receiver`]. (Not in smoltcp's lowest layer.)
 //!
-//! A *held run* is a range of bytes that waits for those before it.
+//! A *position* is the number of a byte in its stream, 64 bits. A *waiting range* (a *run*, or *held*, in names) is a
+//! range of bytes that waits for those before it, which are a *hole*. To *refuse* is to return an error and change
+//! nothing.
 //!
 //! Not proved, but tested: conversions of storage, and `Debug`.
 use core::{fmt, iter};
@@ -13,8 +15,8 @@ pub use crate::stream::{
 };
 
 impl<'a, const N: usize> Receiver<'a, N> {
-    /// Returns a receiver of a stream whose first byte has position 0, with room for `N` held runs. Where the type of
-    /// a variable or a field names no `N` it is 4. An array by value is the storage of a [`ReceiverOver`].
+    /// Returns a receiver of a stream that begins at position 0, with room for `N` waiting ranges: 4 where a variable's
+    /// or a field's type names no `N`. To own an array, use [`ReceiverOver::over([0; 16])`](ReceiverOver::over).
     ///
     /// ```
     /// # use net_base::receiver::{Receiver, ReceiverOver};
@@ -29,7 +31,7 @@ impl<'a, const N: usize> Receiver<'a, N> {
         Self::new_at(storage, 0)
     }
 
-    /// Returns a receiver of a stream whose first byte has position `first`, with room for `N` held runs.
+    /// Returns a receiver of a stream that begins at position `first`, with room for `N` waiting ranges.
     ///
     /// ```
     /// # use net_base::receiver::Receiver;

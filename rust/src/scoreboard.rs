@@ -1,4 +1,4 @@
-//! What a sender knows of the positions that its peer has, as by TCP's SACK blocks: [`Scoreboard`].
+//! Which bytes of its stream a sender knows to have arrived, as from TCP's SACK blocks: [`Scoreboard`].
 //!
 //! Not proved, but tested: constructors without `N`, `Default`, `PartialEq`, and `Debug`.
 use core::fmt;
@@ -8,7 +8,7 @@ use crate::storage::Listed;
 pub use crate::stream::{ReportError, Scoreboard};
 
 impl Scoreboard {
-    /// Returns a scoreboard of a stream that begins at position 0, which has room for 4 runs. For another number write
+    /// Returns a scoreboard of a stream that begins at position 0, with room for 4 ranges. For another number write
     /// `Scoreboard::<8>::empty()`.
     ///
     /// ```
@@ -20,7 +20,7 @@ impl Scoreboard {
         Scoreboard::empty()
     }
 
-    /// Returns a scoreboard of a stream that begins at position `first`, which has room for 4 runs. For another number
+    /// Returns a scoreboard of a stream that begins at position `first`, with room for 4 ranges. For another number
     /// write `Scoreboard::<8>::empty_at(first)`.
     ///
     /// ```
@@ -40,7 +40,7 @@ impl<const N: usize> Default for Scoreboard<N> {
     }
 }
 
-/// Scoreboards of the same positions are equal.
+/// Scoreboards are equal if the same positions were reported to them.
 impl<const N: usize> PartialEq for Scoreboard<N> {
     fn eq(&self, other: &Self) -> bool {
         self.first_unreported() == other.first_unreported() && self.reported().eq(other.reported())
@@ -49,7 +49,7 @@ impl<const N: usize> PartialEq for Scoreboard<N> {
 
 impl<const N: usize> Eq for Scoreboard<N> {}
 
-/// The first position that wasn't reported, and the runs beyond it.
+/// Prints the first position that wasn't reported, and the ranges above it.
 impl<const N: usize> fmt::Debug for Scoreboard<N> {
     fn fmt(&self, f: &mut fmt::Formatter) -> fmt::Result {
         f.debug_struct("Scoreboard")

@@ -125,17 +125,16 @@ def calls(library):
 
 
 def text(library):
-    """The header, which begins with the first program of docs/C.md."""
-    start = re.search(r"^    #include \"net_bound.h\"\n.*?^    \}$", ffi.PAGE.read_text(), flags=re.M | re.S)[0]
+    """The header."""
     lines = []
     for name, each in calls(library).items():
-        lines += ["", f"/** `struct net_base_{name}` with its memory. */", f"struct net_bound_{name} {{",
-                  f"    struct net_base_{name} head; /**< Its numbers. */"]
+        lines += ["", f"/** `struct net_base_{name}`, and where its memory is. */", f"struct net_bound_{name} {{",
+                  f"    struct net_base_{name} head; /**< Its numbers, which only calls write. */"]
         for field, length in each[0].memory:
-            lines += [f"    {MEMORY[field][0]} *{field}; /**< As `.._init` was passed it. */",
+            lines += [f"    {MEMORY[field][0]} *{field}; /**< The array that `.._init` was passed. */",
                       f"    size_t {length}; /**< How many elements that has. */"]
         lines += ["};", *[line for call in each for line in call.text()]]
-    return ffi.filled_in(TEMPLATE, START=ffi.starred(start.splitlines()), CALLS=lines)
+    return ffi.filled_in(TEMPLATE, CALLS=lines)
 
 
 def through(library):

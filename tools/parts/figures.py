@@ -14,9 +14,8 @@ from parts.erase_list import PACKAGES
 
 # What no file counts: what is asked for, and versions.
 FIXED = ["32 or 64 bits", "smoltcp 0.14.0", "until 1.0", "Rust 1.87 and Python 3.9", "smoltcp's is 1", "[0BSD]",
-         "1,460 bytes", "quinn-proto 0.9.2", "sent 0.75 of Linux's MB/s", "N = 4", "two segments of 16 bytes",
-         "checksum of 40 bytes", "round trip of 1 ms", "With 10 % lost", "0.75 of Reno's MB/s, with 5 % delayed",
-         "with 20 % delayed"]
+         "1,460 bytes", "quinn-proto 0.11.9", "N = 4", "two segments of 16 bytes",
+         "checksum of 40 bytes", "round trip of 1 ms", "With 10 % lost", "0.75 of Reno's MB/s, with 5 % delayed"]
 WORDS = [*"none one two three four five six seven eight nine ten eleven twelve".split(), *map(str, range(13, 100))]
 NUMBER = rf"(\d(?:[\w.,-]*\w)?|(?i:{'|'.join(WORDS)}))"
 
@@ -67,31 +66,24 @@ def measured():
     for form, count in [("kept, and read in place", in_place), ("copied out", copied), ("are read in place", two),
                         ("a byte goes through a `SplitRing`", byte)]:
         yield form + " | Cortex-M4 | {} |", sizes, [count]
-    for form, name in [("smoltcp's ring and assembler | {} | {} |", "smoltcp"),
-                       ("net-base's ring and assembler | {} | {} |", "net-base, joined"),
-                       ("net-base's `Receiver`, by `keep` | {} | {} |", "net-base's `Receiver`, `keep`")]:
-        row = next(row for row in cells(sizes) if row[0] == name)
-        yield form, sizes, row[1].split("; ")[1::-1]
+    there, here = (next(row for row in cells(sizes) if row[0] == name)[1].split("; ")[1::-1]
+                   for name in ("smoltcp", "net-base's `Receiver`, `keep`"))
+    yield "a `Receiver` takes {} instructions on a Cortex-M4, and {} bytes of code", sizes, here
+    yield "ring and assembler take {} instructions and {} bytes", sizes, there
     yield "bytes of code | {} | {} |", sizes, span([*ratios, *(ratio for row in ours for ratio in row)])
-    linux = {row[0]: [*map(value, row[4:])] for row in cells(peers) if len(row) == 6}
-    ratios = [ratio for name, row in linux.items() if name != "10 % lost" for ratio in row]
-    yield "sends {} to {} times the bytes a second", peers, span(ratios)
     quinn = cells("compare/results/quinn.md")
     tests, transfers = (next(row for row in quinn if row[0] == name) for name in ("pass", "256"))
-    yield "passes {} of its {} tests", "compare/results/quinn.md", re.findall(r"\d+", tests[2])
+    yield "passes {} of its {} tests. The other four", "compare/results/quinn.md", re.findall(r"\d+", tests[2])
     yield "In {} of {} transfers", "compare/results/quinn.md", re.findall(r"\d+", transfers[1])
     times_of = {row[0]: value(row[3]) for row in quinn if len(row) == 6 and re.fullmatch(r"[\d,]+", row[1])}
     sent = {name: ratio for name, ratio in times_of.items() if " by " in name}
     received = [ratio for name, ratio in times_of.items() if name not in sent and "of one byte" not in name]
-    yield "time to receive a frame | {} | {} |", "compare/results/quinn.md", span(received)
+    yield "time to receive a frame, worst with 1,000 holes | {} | {} |", "compare/results/quinn.md", span(received)
     yield "time to send a frame | {} | {} |", "compare/results/quinn.md", span([*sent.values()])
     clean = next(row for row in cells(peers) if len(row) == 6 and row[0] == "clean")
     yield "sent {} MB/s, and Linux {}", peers, [it.split(";")[0] for it in clean[1:3]]
-    delayed = next(row for row in cells(peers) if len(row) == 8 and row[0] == "20 % delayed")
-    yield "it took {} times as long as Linux took", peers, [delayed[4].split(";")[0]]
-    longest = delayed[7].split(";")[0]
-    for form in ("transfer took {} times as long", "took {} times as long to receive"):
-        yield form, peers, [longest]
+    ratios = [float(it) for row in cells(peers) if len(row) == 8 for it in re.findall(r"\(([\d.]+)\)", " ".join(row))]
+    yield "take {} to {} times as long as those of Linux in the same role", peers, span(ratios)
 
 
 def counted():
@@ -99,9 +91,15 @@ def counted():
     left, calls = "tools/parts/same_names.txt", "overlay/calls.rs"
     first = lambda form, path: (re.search(form, (ROOT / path).read_text(), re.M | re.S) or "00")[1]
     yield "Rust {} or later", cargo, [first(r'^rust-version = "(.*?)"', cargo)]
-    yield "version {}, and write in Cargo.toml", cargo, [first(r'^version = "(.*?)"', cargo)]
-    for text in ("has to refuse each of {} [wrong", "The prover rejects {} [functions]"):
+    yield "version {}, and depend on it by path", cargo, [first(r'^version = "(.*?)"', cargo)]
+    for text in ("has to refuse each of {} [wrong", "also broke [{} functions]"):
         yield text, "crates/must-fail.md", [str(count(r"^\| .* \| `.*` \| `", "crates/must-fail.md"))]
+    edits = "crates/*/must-fail/*.edit"
+    yield "and named tests catch {}", edits, [str(count("^# test: ", edits))]
+    model = "rust/examples/plain_model.rs"
+    yield "every list of {} calls", model, [WORDS[int(first(r"pow\((\d)\)", model))]]
+    ends, reads = first(r"CAPACITY: u64 = (\d+)", model), count(r"Call::Read\(\d", model)
+    yield ", out of {}, on a `Receiver`", model, [str(2 * (int(ends) + 1) + reads)]
     kinds = count(r"^    \w+: (?:\w+::)?play\w*,$", models, "rust/net-tcp/tests/model.rs")
     yield "Some {} tests of Rust", f"src and tests of Rust's packages, {models}", [
         tens(count(r"#\[test\]", *(f"{Path(folder).parent}/{it}/**/*.rs" for folder in PACKAGES.values()
@@ -109,15 +107,14 @@ def counted():
     seeds = first(r"unwrap_or.([0-9]+)", "rust/tests/model/beside.rs")
     yield "{} runs of random calls", models, [
         f"{kinds * int(seeds):,}"]
-    yield "{} calls of the C library, here", "c/targets/run.py", [f'{int(first(r"^CALLS.*? = ([0-9_]+)", "c/targets/run.py")):,}']
+    yield "{} calls answer like", "c/targets/run.py", [f'{int(first(r"^CALLS.*? = ([0-9_]+)", "c/targets/run.py")):,}']
     seeds, kinds = first(r"SEEDS: u64 = (\d+)", calls), first(r"KINDS: [^=]*; (\d+)\]", calls)
     for text in ("{} random sequences of calls", "{} sequences of [random calls]"):
         yield text, calls, [f"{int(seeds) * int(kinds):,}"]
-    for text in ("For all but [{}]", "{} functions, each with its reason"):
-        yield text, left, [WORDS[first(r"^== left\n(.*)", left).count(" ~~ ") // 2]]
+    yield "{} functions, each with its reason", left, [WORDS[first(r"^== left\n(.*)", left).count(" ~~ ") // 2]]
     same = ("tools/same_program.py", "tools/parts/same_*.py", "tools/parts/mir_text.py")
     yield "with its parts {} lines of Python", ", ".join(same), [tens(count("\n", *same))]
-    yield "the MIR of rustc {}, and of your {} or {}, does", "tools/widths.py", re.findall(
+    yield "What a rustc other than {}, {} and {} makes", "tools/widths.py", re.findall(
         r"'([\d.]+)\.'", first(r"^READS = (.*)", "tools/widths.py"))
     planted = plants.SECTIONS.copy()
     yield "each of {} weakened scripts", "tools/parts/plants.txt", [str(len(planted.pop(("weakened",))))]
@@ -128,11 +125,11 @@ def counted():
         str(sum(len(re.findall(r"`\w+`", names)) for names in re.findall(
             r"^- `\w+`: (.*(?:\n  .*)*)", (ROOT / "docs/std-calls.md").read_text(), re.M)))]
     ram = lambda kind: first(rf"`net_bound_{kind}_` \| (\d+) \|", "docs/C.md")
-    yield "takes {} bytes besides its storage, a connection {}, and all code of the C library {}", "docs/C.md", [
+    yield "takes {} bytes of RAM besides its storage, and a connection with 16 ranges a side {}. All code of the C library takes {}", "docs/C.md", [
         ram("ring"), ram("sending_end"), first(r"^\| `thumbv7em-none-eabi` \| ([\d,]+) \|", "docs/C.md")]
     yield "declares {}.", rattle, [WORDS[count(r'^\s*(?:unsafe )?extern(?: "\w+")? \{', rattle)]]
     yield "{} `unsafe impl`", rattle, [WORDS[count(r"^\s*unsafe impl\b", rattle)]]
-    yield "by hand of [{} functions]", "crates/*/proofs", [WORDS[len([*ROOT.glob("crates/*/proofs/**/Proof.antt")])]]
+    yield "hand-written proofs of [{} functions]", "crates/*/proofs", [WORDS[len([*ROOT.glob("crates/*/proofs/**/Proof.antt")])]]
 
 
 @functools.cache

@@ -5,9 +5,8 @@ import re
 from parts import ROOT
 
 HEADER = ROOT / "c/net_base.h"
-# "It returns `false` where it returns a `bool`; where it returns one of these alone or as the first field of a struct,
-# the `NET_BASE_.._REFUSED` of a status, `NET_BASE_NONE` of a `size_t`, `UINT64_MAX` of a `uint64_t`; and 0 of another
-# number".
+# "`bool`: `false`", "a status: its `NET_BASE_.._REFUSED`", "`size_t`: `NET_BASE_NONE`", "`uint64_t`: `UINT64_MAX`",
+# "`uint16_t`: 0", "a struct: the same in its first field".
 REFUSED = {"bool": "false", "size_t": "NET_BASE_NONE", "uint64_t": "UINT64_MAX"}
 EXPORT = re.compile(r"/\*\*((?:(?!\*/).)*)\*/\n(?:NET_BASE_MUST_USE )?(?:struct |enum )?(\w+) (net_base_\w+)\(([^;]*)\)[^;]*;", re.S)
 STATUS = re.compile(r"^enum NET_BASE_32_BITS (net_base_\w+) \{(.*?)^\};", re.S | re.M)

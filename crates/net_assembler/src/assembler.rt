@@ -32,21 +32,21 @@ use std::marker::Model;
 use std::{fmt, mem};
 pub use turns::Turns;
 
-/// A finite set of present positions, such as those of a stream whose segments arrive out of order,
-/// in at most `N` maximal runs.
+/// The positions that have arrived, such as those of a stream's bytes, in at most `N` ranges.
 ///
 /// It serves to reassemble data that arrives in any order: it says up to which position everything
 /// has arrived.
 ///
-/// Positions are counted from 0. A maximal run is a range of present positions that no
-/// other present position touches. Two assemblers are equal exactly if their sets are.
+/// Positions are counted from 0. A *range* (a *run*, in names) is as long as it can be: ranges that
+/// touch become one. A *hole* is what is missing before a range. Two assemblers are equal if they
+/// have the same positions.
 ///
 /// ```
 /// use net_base::storage::Assembler;
 ///
 /// let mut assembler = Assembler::<1>::empty();
 /// assert!(assembler.add(4, 2).is_ok() && assembler.add(6, 2).is_ok());
-/// assert!(assembler.add(0, 2).is_err()); // A second run.
+/// assert!(assembler.add(0, 2).is_err()); // A second range.
 /// assert_eq!(assembler.add_then_remove_front(0, 4), Ok(8));
 /// ```
 #[derive(Debug, Drop)]
@@ -78,9 +78,10 @@ impl<const N: usize> Model for Assembler<N> {
 }
 
 impl<const N: usize> Assembler<N> {
-    /// Returns an assembler with no position, which has room for `N` maximal runs.
+    /// Returns an empty assembler with room for `N` ranges.
     ///
-    /// smoltcp has only `new`, whose number of runs features set. In Rust `new` has 4 runs here, and this any number.
+    /// smoltcp has only `new`, with as many ranges as its features say. In Rust `new` always has 4
+    /// here.
     ///
     /// ```
     /// # use net_base::storage::Assembler;
@@ -121,7 +122,7 @@ impl<const N: usize> Assembler<N> {
         self.head.clear();
     }
 
-    /// Returns the length of the run at position 0, or 0 if position 0 is missing.
+    /// Returns the length of the range at position 0, or 0 if position 0 is missing.
     ///
     /// ```
     /// # use net_base::storage::Assembler;
@@ -151,7 +152,7 @@ impl<const N: usize> Assembler<N> {
         self.head.is_empty()
     }
 
-    /// Returns how many maximal runs there are, without a loop. smoltcp has no such call.
+    /// Returns how many ranges there are, in constant time. (Not in smoltcp.)
     ///
     /// ```
     /// # use net_base::storage::Assembler;
@@ -167,8 +168,8 @@ impl<const N: usize> Assembler<N> {
         self.head.run_count()
     }
 
-    /// Returns whether `offset + size` fits `usize`, which all calls that add a range require.
-    /// smoltcp has no such call; there such a sum overflows.
+    /// Returns whether `offset + size` fits a `usize`, as all calls that add a range require. (Not
+    /// in smoltcp, where such a sum overflows.)
     ///
     /// ```
     /// # use net_base::storage::Assembler;
@@ -182,10 +183,11 @@ impl<const N: usize> Assembler<N> {
         AssemblerHead::fits(offset, size)
     }
 
-    /// Adds the positions from `offset` to `offset + size - 1`; none if `size` is 0.
+    /// Adds the `size` positions from `offset` on. In the guarantees `with_range` is the set with
+    /// these.
     ///
-    /// It is inlined where it is called, so it is the fast call, and the large one. `add_then_remove_front`
-    /// calls the same rule as one function.
+    /// It is inlined wherever it is called, so it is fast, and its code is large.
+    /// `add_then_remove_front` calls one shared function.
     ///
     /// ```
     /// # use net_base::storage::Assembler;
@@ -197,13 +199,12 @@ impl<const N: usize> Assembler<N> {
     ///
     /// # Errors
     ///
-    /// The range is refused, and the set stays as it was, exactly if the set with these positions
-    /// would have more than `N` maximal runs: never while there are fewer than `N`. Ranges that
-    /// only touch form one run.
+    /// `TooManyHolesError` if there would be more than `N` ranges. Then nothing changes. It can't
+    /// happen while there are fewer than `N`.
     ///
     /// # Requires
     ///
-    /// The range ends at a `usize`, as `fits` tests.
+    /// `offset + size` fits a `usize`, as `fits` tests.
     #[inline(always)]
     #[track_caller]
     pub fn add(&mut self, offset: usize, size: usize) -> Result<(), TooManyHolesError>
@@ -225,19 +226,19 @@ impl<const N: usize> Assembler<N> {
         self.add_counted(offset, size, &mut Turns::new())
     }
 
-    /// Adds a range as `add` does. Contracts count each iteration of a loop: a move if it moves a run or
-    /// takes one into the range, otherwise a look. smoltcp has no such call.
+    /// Adds a range as `add` does. Contracts count each iteration of a loop: a move if it moves a
+    /// range or joins one with the new one, otherwise a look. (Not in smoltcp.)
     ///
     /// Looks rise by at most twice the number of binary digits of `N`, which is 3 for 4 and 6 for
     /// 32, moves by at most `N`, and both together by at most `4 * N`. Neither count falls.
     ///
     /// # Errors
     ///
-    /// The range is refused exactly if `add` refuses it, and then the set stays as it was.
+    /// `TooManyHolesError` if `add` returns it. Then nothing changes.
     ///
     /// # Requires
     ///
-    /// The range ends at a `usize`, as `fits` tests.
+    /// `offset + size` fits a `usize`, as `fits` tests.
     #[inline(always)]
     #[track_caller]
     pub fn add_counted(
@@ -266,11 +267,11 @@ impl<const N: usize> Assembler<N> {
         self.head.add_inlined(&mut self.runs, offset, size, turns)
     }
 
-    /// Removes the run at position 0, counts all later positions from its end, and returns its
-    /// length.
+    /// Removes the range at position 0, and returns its length. Later positions are counted from
+    /// its end then.
     ///
-    /// If position 0 is missing it returns 0 and changes nothing. Otherwise there is room for one
-    /// more run, so the next `add` is accepted.
+    /// If position 0 is missing, it returns 0 and changes nothing. Otherwise there is room for one
+    /// more range, so the next `add` succeeds.
     ///
     /// ```
     /// # use net_base::storage::Assembler;
@@ -293,11 +294,11 @@ impl<const N: usize> Assembler<N> {
         self.head.remove_front(&mut self.runs)
     }
 
-    /// Removes the positions below `count`, and counts the others from there, so that position
-    /// `count` is position 0 then. A run that `count` cuts keeps what is at or after it. smoltcp has
-    /// no such call.
+    /// Removes the positions below `count`. The others are counted from there then: position
+    /// `count` becomes position 0. A range that `count` cuts keeps its later part. (Not in
+    /// smoltcp.)
     ///
-    /// It serves a sender whose peer acknowledged `count` positions more, and holds some beyond.
+    /// It serves a sender whose peer acknowledged `count` more positions, and has some beyond them.
     ///
     /// ```
     /// # use net_base::storage::Assembler;
@@ -315,9 +316,10 @@ impl<const N: usize> Assembler<N> {
         self.head.shift(&mut self.runs, count);
     }
 
-    /// Adds a range as `add` does, and then removes the front as `remove_front` does.
+    /// Adds a range as `add` does, then removes the range at position 0 as `remove_front` does, and
+    /// returns its length.
     ///
-    /// With `size` 0 a run can still be removed.
+    /// Even if `size` is 0, a range can be removed.
     ///
     /// ```
     /// # use net_base::storage::{Assembler, TooManyHolesError};
@@ -330,14 +332,13 @@ impl<const N: usize> Assembler<N> {
     ///
     /// # Errors
     ///
-    /// A range at 0 is never refused, since the run that it is part of is removed at once. TCP
-    /// depends on that: if the segment that it waits for were refused, no other could complete the
-    /// front, and the connection would stall. A range elsewhere is refused exactly if `add` refuses
-    /// it, and then the set stays as it was.
+    /// `TooManyHolesError` if `offset` isn't 0 and `add` returns it. Then nothing changes. A range
+    /// at 0 is never refused, since it is removed at once. TCP depends on that: if the segment that
+    /// it waits for were refused, the connection would stall.
     ///
     /// # Requires
     ///
-    /// The range ends at a `usize`, as `fits` tests.
+    /// `offset + size` fits a `usize`, as `fits` tests.
     #[inline(always)]
     #[track_caller]
     pub fn add_then_remove_front(
@@ -366,9 +367,9 @@ impl<const N: usize> Assembler<N> {
             .add_then_remove_front(&mut self.runs, offset, size)
     }
 
-    /// Returns the maximal runs as (start, end), the end not included, in rising order.
+    /// Returns the ranges as (start, end), the end not included, in rising order.
     ///
-    /// smoltcp's documentation says offset and size, but its code yields start and end too.
+    /// smoltcp's documentation says offset and size, but its code also yields start and end.
     ///
     /// ```
     /// # use net_base::storage::Assembler;
@@ -385,11 +386,10 @@ impl<const N: usize> Assembler<N> {
         self.head.iter_data(&self.runs)
     }
 
-    /// Returns the maximal run with number `k`, counted from 0 in rising order, as (start, end),
-    /// the end not included; `None` exactly if there are no more than `k`. smoltcp has no such
-    /// call.
+    /// Returns the range with the number `k`, counted from 0, as (start, end), the end not
+    /// included; `None` if there is none. (Not in smoltcp.)
     ///
-    /// It takes no memory, and reads an array once.
+    /// It takes constant time.
     ///
     /// ```
     /// # use net_base::storage::Assembler;
@@ -404,7 +404,7 @@ impl<const N: usize> Assembler<N> {
         self.head.run_at(&self.runs, k)
     }
 
-    /// Returns whether `position` is present. smoltcp has no such call.
+    /// Returns whether `position` is present. (Not in smoltcp.)
     ///
     /// ```
     /// # use net_base::storage::Assembler;
@@ -419,8 +419,7 @@ impl<const N: usize> Assembler<N> {
         self.head.contains(&self.runs, position)
     }
 
-    /// Returns the holes as (start, end), the end not included, in rising order. smoltcp has no such
-    /// call.
+    /// Returns the holes as (start, end), the end not included, in rising order. (Not in smoltcp.)
     ///
     /// ```
     /// # use net_base::storage::Assembler;
@@ -436,9 +435,8 @@ impl<const N: usize> Assembler<N> {
         self.head.holes(&self.runs)
     }
 
-    /// Returns the hole with number `k`, counted from 0 in rising order, as (start, end), the end not
-    /// included; `None` exactly if there are no more than `k`. Holes are the missing ranges below
-    /// the end of the last run, such as those that a sender sends again. smoltcp has no such call.
+    /// Returns the hole with the number `k`, counted from 0, as (start, end), the end not included;
+    /// `None` if there is none. Holes are what a sender sends again, for example. (Not in smoltcp.)
     ///
     /// ```
     /// # use net_base::storage::Assembler;
@@ -504,8 +502,8 @@ impl fmt::Display for Contig {
     }
 }
 
-/// `[ `, then for each run the hole before it in parentheses, left out if it is 0, and the
-/// length of the run, each with a space after it, then `]`. With no position it is `[ ]`.
+/// Prints the length of each range, and before it, in parentheses, that of its hole if there is
+/// one: `[ (3) 2 (4) 1 ]`. An empty assembler prints `[ ]`.
 impl<const N: usize> fmt::Display for Assembler<N> {
     ghost output = { λ s. Some (display_text s) };
 
@@ -524,9 +522,9 @@ impl<const N: usize> fmt::Display for Assembler<N> {
     }
 }
 
-/// An iterator over the maximal runs of an assembler, made by `iter_data`.
+/// An iterator over the ranges of an assembler, made by `iter_data`.
 ///
-/// It yields (start, end) of each run in rising order, the end not included, and then ends.
+/// It yields each range as (start, end), the end not included, in rising order.
 ///
 /// ```
 /// # use net_base::storage::Assembler;
@@ -541,7 +539,7 @@ pub struct RunIter<'a> {
     first_start: usize,
 }
 
-/// The iterator of an `Assembler<N>`, which yields at most `N` runs.
+/// The iterator of an `Assembler<N>`, which yields at most `N` ranges.
 ///
 /// ```
 /// # use net_base::storage::{Assembler, IterData};
@@ -610,7 +608,7 @@ impl<'a> Iterator for RunIter<'a> {
 
 /// An iterator over the holes of an assembler, made by `holes`.
 ///
-/// It yields (start, end) of each hole in rising order, the end not included, and then ends.
+/// It yields each hole as (start, end), the end not included, in rising order.
 ///
 /// ```
 /// # use net_base::storage::Assembler;

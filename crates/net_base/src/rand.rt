@@ -1,4 +1,4 @@
-//! A generator of random words, and the source ports that are drawn from it.
+//! A random number generator for source ports and tests, not for secrets.
 //!
 //! The generator is the one of smoltcp's `rand.rs`, which names it sPCG32, with the same constants:
 //! a linear congruential state of 64 bits, whose random word is the state shifted right by an amount
@@ -16,8 +16,8 @@ const LAST_RESERVED_PORT: u16 = 1024;
 
 /// A generator of random words.
 ///
-/// It serves for source ports and for tests. Random words are no secret: anyone who knows one state
-/// knows all that follow.
+/// It serves for source ports and tests, not for secrets: anyone who knows one state knows all that
+/// follow.
 ///
 /// ```
 /// use net_base::rand::Rand;
@@ -58,7 +58,7 @@ impl Rand {
         Rand { state: seed }
     }
 
-    /// Returns the state: `Rand::new` of it goes on where this generator is. smoltcp has no such call.
+    /// Returns the state. `Rand::new` of it continues where this generator is. (Not in smoltcp.)
     ///
     /// ```
     /// # use net_base::rand::Rand;
@@ -74,7 +74,7 @@ impl Rand {
         self.state
     }
 
-    /// Steps to the next state, and returns its random word.
+    /// Steps to the next state, and returns the random word of that state.
     ///
     /// ```
     /// # use net_base::rand::Rand;
@@ -93,8 +93,7 @@ impl Rand {
         ((state >> shift) & 0xffff_ffff) as u32
     }
 
-    /// Steps to the next state, and returns its draw of 16 bits: the two halves of its random word, combined by
-    /// exclusive or.
+    /// Draws a random word, and returns its two halves combined by exclusive or.
     ///
     /// ```
     /// # use net_base::rand::Rand;
@@ -108,9 +107,9 @@ impl Rand {
         ((n ^ (n >> 16)) & 0xffff) as u16
     }
 
-    /// Steps to the next state, and returns its random word times `bound`, divided by 2^32 and rounded down: a number
-    /// below `bound`, or 0 if `bound` is 0. Each number below `bound` is the result for equally many words, or for one
-    /// more. smoltcp has no such call.
+    /// Draws a random word, and returns it times `bound`, divided by 2^32: a number below `bound`,
+    /// or 0 if `bound` is 0. Each number is the result of equally many words, or of one more. (Not
+    /// in smoltcp.)
     ///
     /// ```
     /// # use net_base::rand::Rand;
@@ -126,11 +125,10 @@ impl Rand {
         (word * u64::from(bound) >> 32) as u32
     }
 
-    /// Draws 16 bits until a draw is above 1024, and returns that draw. The generator stays at that
-    /// draw's state.
+    /// Returns a random port above 1024: it draws 16 bits until they are.
     ///
-    /// It returns from every state, after at most 2^64 draws: each state leads to every state,
-    /// including one whose draw is above 1024.
+    /// It needs at most 2^64 draws: each state leads to every other, so also to one whose draw is
+    /// above 1024.
     ///
     /// ```
     /// # use net_base::rand::Rand;

@@ -24,7 +24,7 @@ use Rattle.net_receiver.specs.declared.sent_numbers.SentNumbers.{SentNumbers}
 use Rattle.net_receiver.specs.Scoreboards.{beyond, IsLossBound, IsEnd}
 use Rattle.net_tcp.specs.LossRecovery.{is_active, unsent_lost, is_equal_acknowledgement, is_duplicate_block}
 use Rattle.net_tcp.specs.LossRecovery.{after_answer, after_report, after_silence, blind_lost, found, begun}
-use Rattle.net_tcp.specs.LossRecovery.{after_copies, after_probe, after_sending, forgotten, Recovery as LossRecovery}
+use Rattle.net_tcp.specs.LossRecovery.{after_copies, after_probe, after_sending, after_stall, Recovery as LossRecovery}
 use Rattle.net_tcp.specs.declared.loss_recovery.Answer.{Answer}
 use Rattle.net_tcp.specs.Retransmission.{has_ended}
 use Rattle.net_ends.specs.declared.sending_end.Expired.{Expired}
@@ -150,6 +150,6 @@ expiry_of e now highest =
 -- of a shut window it is lost, since the peer drops it; else it may be a probe for an answer
 abbrev pub after_segment : SentNumbers → ℕ → ℕ → Bool → Bool → LossRecovery → LossRecovery
 after_segment at from to asks probe r =
-    if asks then begun at.first_unacknowledged (max at.sent to) (max at.sent to) (forgotten r)
+    if asks then after_stall at.first_unacknowledged (max at.sent to) r
     else (if probe then after_probe at.first_unacknowledged at.sent from to r
     else after_sending at.first_unacknowledged at.sent from to r)

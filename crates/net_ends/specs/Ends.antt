@@ -24,9 +24,9 @@ use Rattle.std.specs.Int.{from_bool}
 use Rattle.std.specs.FinSet as set
 use Rattle.std.specs.declared.ops.Range.{Range}
 use Rattle.net_assembler.specs.Positions.{Positions, contains, with_range, nothing}
-use Rattle.net_tcp.specs.LossRecovery.{begun as begun_recovery, forgotten, new_recovery, Recovery as LossRecovery}
+use Rattle.net_tcp.specs.LossRecovery.{after_stall, after_timeout, new_recovery, Recovery as LossRecovery}
 use Rattle.net_ends.specs.Rules.{Known, queued_of, renewed_by, window_shut, asks_window, most_to, in_hurry}
-use Rattle.net_ends.specs.Rules.{worth_sending, due}
+use Rattle.net_ends.specs.Rules.{worth_sending, due, nothing_lost}
 use Rattle.net_tcp.specs.Estimate.{Estimate}
 use Rattle.net_tcp.specs.Retransmission.{after_acknowledged, with_sample, after_expiry, after_sending, started}
 use Rattle.net_tcp.specs.Retransmission.{after_report, has_expired, has_ended, new_timer, stopped}
@@ -250,10 +250,10 @@ has_timed_out e now = has_ended e.timer now
 abbrev pub is_overdue : End → ℤ → Bool
 is_overdue e now = has_expired e.timer now && (has_ended e.timer now || not e.recovery.is_blind)
 
--- all that was sent and isn't reported is lost
+-- all that was sent and isn't reported is lost, which is a sign of congestion unless the timeout loses nothing
 abbrev pub all_lost : End → End
 all_lost e = record e {
-  recovery = begun_recovery (first e) e.sender.sent e.sender.sent (forgotten e.recovery);
+  recovery = (if nothing_lost (known e) then after_stall else after_timeout) (first e) e.sender.sent e.recovery;
   probes = true;
   overdue = false;
 }

@@ -7,7 +7,7 @@
 //!
 //! `first` is TCP's SND.UNA, `sent` its SND.NXT (SND.MAX, where something is sent again), and `end` is after the last
 //! byte, and after the end of the stream once it is closed. The peer's `edge`, SND.UNA + SND.WND, can be anywhere: what
-//! is sent ends at it, but for a probe, which is the number at `first` alone.
+//! is sent ends at it, but for a probe, which is the position `first` alone.
 
 // Why: What is held back for a small window waits for the timer that there is, as RFC 9293 allows. If nothing was in
 // flight, nothing was lost, so `expired` answers `Probe` then, and no congestion window is cut. Copies are never
@@ -68,7 +68,7 @@ pub enum Acknowledged {
     Old,
     /// It was taken.
     Taken {
-        /// How many numbers it acknowledged that weren't before.
+        /// How many positions it acknowledged that weren't before.
         new: u64,
         /// Whether a block of it reports what wasn't known.
         reports: bool,
@@ -129,15 +129,14 @@ impl AckSegment {
 pub enum Expired {
     /// It hasn't ended, or a probe is due and the peer reports nothing, so that it couldn't answer.
     No,
-    /// No answer has come in time: what is overdue is lost, and if nothing of it may be sent, the next segment is a
-    /// probe for an answer.
+    /// No answer has come in time. What is late counts as lost, and `next_segment` sends it again. If it has none to
+    /// send, it sends a probe, which asks for an answer.
     Overdue {
         /// Whether it begins a recovery: then halve the congestion window.
         begins: bool,
     },
     /// The peer's window is shut, and the next segment is a probe of it; or nothing is in flight, and the next segment
-    /// has what was held back. Halve nothing, and forget what an earlier halving would be undone to: `take_back` may be
-    /// true after this.
+    /// has what was held back. That is no sign of congestion: leave the congestion window as it is.
     Probe,
     /// All that was sent is lost: let one segment be in flight. `take_back` may undo that, as it does a halving.
     Lost,
@@ -161,14 +160,14 @@ pub enum Expired {
 pub struct Outgoing {
     /// The position of its first byte, or of the end.
     pub pos: u64,
-    /// The number after its last one, that of the end among them.
+    /// The position after its last one. The end of the stream has one too.
     pub end: u64,
     /// Whether some of it was sent before.
     pub is_again: bool,
 }
 
 impl Outgoing {
-    /// Returns its numbers, as `SendingEnd::bytes` takes them.
+    /// Returns its positions, as `SendingEnd::bytes` takes them.
     #[must_use]
     pub fn range(&self) -> Range<u64>
         ensures { result ≡ record { start = self.now.pos; end = self.now.end } }
@@ -185,7 +184,7 @@ impl Outgoing {
 /// use net_tcp::TimeoutBounds;
 /// use net_base::time::Duration;
 ///
-/// // 64 bytes may wait, and at most 4 runs are remembered of what the peer reports.
+/// // 64 bytes may wait, and at most 4 ranges are remembered of what the peer reports.
 /// let (mut storage, bounds) = ([0u8; 64], TimeoutBounds::default());
 /// let sending = SendingEnd::<4>::new_at(&mut storage[..], 100, Duration::from_secs(1), bounds);
 /// assert_eq!((sending.window(), sending.flight_size()), (64, 0));
@@ -342,7 +341,7 @@ impl<S: Storage<u8>, const N: usize> SendingEndOver<S, N> {
     /// # sending.open(Announcement { seq: 1, ack: 100, window: 1000 }, 8, Sack::Permitted, Instant::ZERO);
     /// let _taken = sending.write(b"abc");
     /// sending.close();
-    /// // The end has a number, too.
+    /// // The end has a position, too.
     /// let segment = sending.next_segment(1200, Instant::ZERO).expect("three bytes and the end");
     /// assert_eq!((segment.pos, segment.end), (100, 104));
     /// ```
@@ -447,7 +446,7 @@ impl<S: Storage<u8>, const N: usize> SendingEndOver<S, N> {
     }
 
     /// Returns whether a SYN is to be sent now, the first one or one after a timeout, and starts the timer for the
-    /// next. Ask it only until something is acknowledged, at which it doesn't look.
+    /// next. Ask it only until your SYN is acknowledged: it doesn't test that.
     ///
     /// ```
     /// # use net_tcp::SendingEnd;
@@ -472,9 +471,9 @@ impl<S: Storage<u8>, const N: usize> SendingEndOver<S, N> {
     /// Takes what a segment acknowledges and announces, the blocks that it reports, and whether it has anything
     /// besides. Whatever it says, it can't break the end.
     ///
-    /// A block counts that begins above the first number that isn't reported, has a number, and ends where something
-    /// was sent and less than 2^32 above that one, if what is reported beyond that one is at most `N` runs then. Any
-    /// other block says nothing.
+    /// A block counts that begins above the first position that isn't reported, has a position, and ends where
+    /// something was sent and less than 2^32 above that one, if what is reported beyond that one is at most `N` ranges
+    /// then. Any other block says nothing.
     ///
     /// ```
     /// # use net_tcp::{AckSegment, Acknowledged, SendingEnd};
@@ -517,8 +516,8 @@ impl<S: Storage<u8>, const N: usize> SendingEndOver<S, N> {
         said
     }
 
-    /// Returns the first number that isn't acknowledged, near which those of an acknowledgement are, and the one after
-    /// the last that was sent.
+    /// Returns the first position that isn't acknowledged, near which those of an acknowledgement are, and the one
+    /// after the last that was sent.
     ///
     /// ```
     /// # use net_tcp::SendingEnd;
@@ -591,7 +590,7 @@ impl<S: Storage<u8>, const N: usize> SendingEndOver<S, N> {
         }
     }
 
-    /// Returns the segment that is to be sent now, and takes notice that it is: if the peer's window and the congestion
+    /// Returns the segment that is to be sent now, and counts it as sent: if the peer's window and the congestion
     /// window have room for one, or as a probe. One segment may be in flight, however small the congestion window is.
     /// What was never sent is held back if it is less than a segment, unless it is all that is left, or half of the
     /// greatest window that the peer announced (RFC 9293, 3.8.6.2.1), and Nagle's rule doesn't have it wait. Once the
@@ -668,10 +667,10 @@ impl<S: Storage<u8>, const N: usize> SendingEndOver<S, N> {
         self.head.round_trip()
     }
 
-    /// Returns whether the last recovery was for nothing, and ends it then: nothing that was found lost is missing but
-    /// what was sent again, and all that was sent again came twice (RFC 3708). Then the congestion window may be what
-    /// it was when the recovery began. Ask it after each acknowledgement, an old one too. It is true once: not before
-    /// another recovery begins, or the timer ends. After `Expired::Probe` it can be true though nothing was halved.
+    /// Returns whether the last recovery was spurious, and ends it then: nothing had been lost, since all that was sent
+    /// again came twice (RFC 3708), and the rest arrived. Then restore the congestion window of before the recovery.
+    /// Ask it after each acknowledgement, an old one too. It is true at most once after each sign of congestion: a
+    /// `begins` that is true, or `Expired::Lost`.
     ///
     /// ```
     /// # use net_tcp::{AckSegment, SendingEnd};
@@ -725,7 +724,7 @@ impl<S: Storage<u8>, const N: usize> SendingEndOver<S, N> {
         self.head.buffer.recovery.is_active(self.numbers())
     }
 
-    /// Returns how many numbers were sent and aren't acknowledged.
+    /// Returns how many positions were sent and aren't acknowledged.
     #[must_use]
     pub fn flight_size(&self) -> u64
         ensures { result ≡ self.now.sender.sent - first self.now }

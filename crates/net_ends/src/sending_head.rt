@@ -33,10 +33,10 @@ use net_tcp::{
 use std::ops::Range;
 
 /// All of a sending end but its sender and the times that were set: what was reported and what is lost, the timer, and
-/// what the peer announced. Its calls are given the sender's numbers; who holds both has the sender take what they say.
+/// what the peer announced.
 ///
-/// It is numbers and flags alone, so that C has it as it is. One of zeros is new. It is sound if the scoreboard is,
-/// with its runs.
+/// Its calls are given the sender's numbers; who holds both has the sender take what they say. It is numbers and flags
+/// alone, so that C has it as it is. One of zeros is new. It is sound if the scoreboard is, with its runs.
 #[repr(C)]
 #[derive(Copy, Clone, Debug)]
 pub struct SendingHead {
@@ -54,7 +54,7 @@ pub struct SendingHead {
     pub segment_size: usize,
     /// Whether Nagle's rule is disabled.
     pub no_delay: bool,
-    /// Whether the peer has acknowledged anything, if only the own SYN.
+    /// Whether the peer has acknowledged anything, if only this end's SYN.
     pub is_open: bool,
     /// Whether the timeout has passed and nothing was sent since then: nothing is held back, and if the window is
     /// shut, the next segment is a probe of it.
@@ -166,7 +166,7 @@ impl SendingHead {
     }
 
     /// Returns whether a SYN is to be sent now, the first one or one after a timeout, and starts the timer for the
-    /// next. Ask it only until something is acknowledged, at which it doesn't look.
+    /// next. Ask it only until your SYN is acknowledged: it doesn't test that.
     #[inline]
     pub fn is_opening_due(&mut self, bounds: TimeoutBounds, now: Instant) -> bool
         ensures value { result ≡ (has_expired (timer_of self.old.timer) now
@@ -383,12 +383,13 @@ impl SendingHead {
             (bounds : TimeoutBounds) → queued_of s ≡ queued →
             TimesOut (end_of s self.old runs timeout bounds) result (end_of s self.new runs timeout bounds) }
     {
-        self.buffer.recovery.timed_out(queued.numbers);
         self.is_window_probe_due = true;
         self.is_overdue = false;
         if self.is_shut(queued) || queued.numbers.flight_size() == 0 {
+            self.buffer.recovery.stalled(queued.numbers);
             Expired::Probe
         } else {
+            self.buffer.recovery.timed_out(queued.numbers);
             Expired::Lost
         }
     }
@@ -536,7 +537,7 @@ impl SendingHead {
         queued.end <= to || self.greatest_window.saturating_sub(len) <= len
     }
 
-    /// Returns the segment that is to be sent now, and takes notice that it is: if the peer's window and the congestion
+    /// Returns the segment that is to be sent now, and counts it as sent: if the peer's window and the congestion
     /// window have room for one, or as a probe. What was never sent is held back if it is less than a segment, unless
     /// it is all that is left, or half of the greatest window that the peer announced (RFC 9293, 3.8.6.2.1), and
     /// Nagle's rule doesn't have it wait. Once the timer has ended, the next segment isn't held back. While anything

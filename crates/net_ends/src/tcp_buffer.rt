@@ -30,10 +30,10 @@ pub struct Queued {
     pub is_closed: bool,
 }
 
-/// What was reported and what is lost of what a sender has sent: a scoreboard, and a recovery. Its calls
-/// are given the sender's numbers and the scoreboard's runs; who holds both has the sender take what they say.
+/// What was reported and what is lost of what a sender has sent: a scoreboard, and a recovery.
 ///
-/// A head of zeros is new, of a stream that begins at position 0. It is sound if the scoreboard is, with the runs.
+/// Its calls are given the sender's numbers and the scoreboard's runs; who holds both has the sender take what they
+/// say. A head of zeros is new, of a stream that begins at position 0. It is sound if the scoreboard is, with the runs.
 #[repr(C)]
 #[derive(Copy, Clone, Debug)]
 pub struct BufferHead {
@@ -320,7 +320,7 @@ impl BufferHead {
             Sending::Segment => self.recovery.sent(numbers, range),
             Sending::TailProbe => self.recovery.probe_sent(numbers, range),
             // The peer drops it.
-            Sending::WindowProbe => self.recovery.timed_out(SentNumbers {
+            Sending::WindowProbe => self.recovery.stalled(SentNumbers {
                 first_unacknowledged: numbers.first_unacknowledged,
                 sent: numbers.sent.max(range.end),
             }),

@@ -10,7 +10,9 @@ use Rattle.std.proofs.lemmas.List.Elements.{All-nil, All-cons}
 use Rattle.net_receiver.specs.Finite.{Arrives, Reads, MatchesFinite, CommandMatches, bytes_taken}
 use Rattle.net_tcp.specs.Retransmission.{expires_from, Timer as RetransmissionTimer}
 use Rattle.net_tcp.specs.LossRecovery.{is_active}
-use Rattle.net_ends.specs.Ends.{End, end, first, timed_out}
+use Rattle.net_ends.specs.Ends.{End, end, first, timed_out, known}
+use Rattle.net_ends.specs.Rules.{nothing_lost}
+use Rattle.net_tcp.specs.LossRecovery.{after_stall, after_timeout, Recovery as LossRecovery}
 use Rattle.net_ends.specs.declared.sending_end.Outgoing.{Outgoing}
 use Rattle.net_ends.specs.Receiving.{Receiving, after_arrival}
 use Rattle.net_ends_tests.proofs.TextFacts.{read_is}
@@ -70,8 +72,15 @@ IsLate e o = IsTrue e.probes → IsFalse (is_active e.recovery (first e)) → fi
 none_active : (a b : ℕ) → a ≡ b → nat_lt a b ≡ false
 none_active a b is = grind (arith, nat_tests, is)
 
--- where nothing was in flight, no recovery lasts
+-- whether it was a stall or not, where nothing was in flight no recovery lasts
+none_lasts : (b : Bool) (first sent : ℕ) (r : LossRecovery) → nat_lt first sent ≡ false →
+    IsFalse (is_active ((if b then after_stall else after_timeout) first sent r) first)
+none_lasts true first sent r none = none
+none_lasts false first sent r none = none
+
 pub late_is_sent : (e f : End) (now : ℤ) (o : Option Outgoing) → f ≡ timed_out e now → IsLate f o →
     first e ≡ e.sender.sent → first e < end e → IsTrue (is_some o)
 late_is_sent e f now o is late all some =
-    subst (λ x. IsLate x o) is late refl (none_active (first e) e.sender.sent all) all some
+    let lasts = none_lasts (nothing_lost (known e)) (first e) e.sender.sent e.recovery
+    (none_active (first e) e.sender.sent all) in
+    subst (λ x. IsLate x o) is late refl lasts all some

@@ -8,11 +8,11 @@ ghost use Rattle.net_ffi.specs.AnswerLimit.{limit_of};
 use net_base::time::Instant;
 use net_tcp::Segment;
 
-/// A limit of answers.
+/// A limit of answers. Keep one for each connection.
 #[repr(C)]
 #[derive(Copy, Clone, Debug)]
 pub struct AnswerLimit {
-    /// When the next segment is answered that may be an answer itself.
+    /// From this moment on a segment that may itself be an answer is answered again.
     pub until: i64,
 }
 
@@ -25,10 +25,10 @@ pub extern "C" fn net_base_answer_limit_init(limit: &mut AnswerLimit)
 }
 
 /// Returns whether to answer a segment of which nothing is taken, `NET_BASE_ARRIVAL_ANSWER` of
-/// `net_base_receiving_end_classify` or `NET_BASE_ACKNOWLEDGED_ANSWER` of `net_base_sending_end_acknowledged`, and takes
-/// notice that it is answered. A segment without positions, which may be an answer itself, and a SYN are answered at
-/// most twice a second, so that two ends don't answer each other's answers without end (RFC 5961, section 7). If the
-/// clock is set back, the limit stays until the moment that it was.
+/// `net_base_receiving_end_classify` or `NET_BASE_ACKNOWLEDGED_ANSWER` of `net_base_sending_end_acknowledged`, and if
+/// so counts it as answered. A segment without positions, which may be an answer itself, and a SYN are answered at most
+/// twice a second, so that two ends don't answer each other's answers without end (RFC 5961, section 7). Any other is
+/// answered each time. If the clock is set back, the limit stays until the moment that it was.
 #[unsafe(no_mangle)]
 pub extern "C" fn net_base_answer_limit_allows(
     limit: &mut AnswerLimit,

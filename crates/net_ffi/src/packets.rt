@@ -108,8 +108,8 @@ pub extern "C" fn net_base_packets_enqueue(
 /// Takes the first packet off, and the gap before it, and returns where it is. Its bytes stay until another packet is
 /// placed there.
 ///
-/// If there is none, `gap` and `size` are 0, the others `NET_BASE_NONE`. A head or a first slot that isn't one of calls
-/// of this kind is refused: then `gap` is `NET_BASE_NONE` too. In both cases nothing changes.
+/// If there is none, `gap` and `size` are 0, the others `NET_BASE_NONE`. A head or a first slot that calls of this kind
+/// didn't write is refused: then `gap` is `NET_BASE_NONE` too. In both cases nothing changes.
 #[unsafe(no_mangle)]
 pub extern "C" fn net_base_packets_dequeue(
     packets: &mut PacketsHead,

@@ -1,12 +1,31 @@
 //! The receiving end of a stream as one machine: a receiver of a stream that ends, the window that it announces, when
-//! it acknowledges, and what an acknowledgement lists.
+//! it acknowledges, and what an acknowledgement lists. A connection of TCP has one of these, one `SendingEnd` and one
+//! `AnswerLimit`. In the order of a connection:
+//! - Both directions have a *first position*, which `.._init` and `.._open` are passed: that of the first byte after
+//!   the SYN. The SYN has the position before it, and the FIN the one after the last byte.
+//! - Before the peer's SYN has come (SYN-SENT), don't ask `net_base_receiving_end_classify`: a segment acknowledges
+//!   your SYN if its acknowledgement number is that of your first position.
+//! - After the peer's SYN, your SYN is acknowledged once `net_base_sending_end_acknowledged` has the status
+//!   `NET_BASE_ACKNOWLEDGED_DONE`. At another status before that, send a RST with that acknowledgement's number, and
+//!   take nothing of the segment (RFC 9293, 3.10.7.4).
+//! - A segment whose bytes are in several buffers is classified once, and then passed to
+//!   `net_base_receiving_end_arrived` piece by piece. Each piece counts as a segment, so the second one makes an
+//!   acknowledgement due.
+//! - If `net_base_receiving_end_arrived` returns `NET_BASE_SEGMENT_TOO_MANY_RUNS` or `NET_BASE_SEGMENT_OTHER_END`, go
+//!   on: nothing of the segment was kept, and an acknowledgement is due, by which the peer knows what to send again.
+//! - The peer's FIN may arrive before bytes that are missing. All has come up to it once
+//!   `net_bound_receiving_end_is_complete` is true: then `receiver.after_end` isn't 0, and
+//!   `net_base_finite_receiver_acknowledged` writes the same.
+//! - No call gives up. How long nothing may be acknowledged until you do is yours to count: 100 seconds at least, and 3
+//!   minutes for a SYN (RFC 9293, 3.8.3).
 //!
 //! A head of zeros is new, of a stream that begins at position 0, with segments of no bytes. All of an end is in its
-//! head but the bytes: at most 16 runs are held. A segment is classified, and arrives if it is to be taken;
-//! `net_base_receiving_end_answer` is for one that is only answered. While `net_base_receiving_end_is_due` an
-//! acknowledgement is sent at once. While `net_base_receiving_end_is_wanted` one is sent after the delay that the
-//! program has for it, unless a segment with bytes is sent before that and announces. The calls of a finite receiver
-//! that look at it may look at `receiver`: whether it is complete, whether all was read, what it acknowledges.
+//! head but the bytes: at most 16 ranges wait. A segment is classified, and arrives if it is to be taken;
+//! `net_base_receiving_end_answer` is for one that is only answered. While `net_base_receiving_end_is_due` is true, an
+//! acknowledgement is to be sent at once. While `net_base_receiving_end_is_wanted` is true, one is to be sent within
+//! half a second, unless a segment with bytes is sent before that and announces. Two calls of a finite receiver may be
+//! passed `receiver`: `net_base_finite_receiver_acknowledged` writes the first missing position, and
+//! `net_base_finite_receiver_has_read_all` returns whether the peer's stream has ended and was read.
 
 // Why: This end is over a `FiniteReceiverHead`, whose calls take the storage. A `ReceivingEndOver` that an export
 // made of a lent storage would leave nothing known of that, since no contract says that it keeps the reference. So
@@ -53,7 +72,7 @@ use net_tcp::Segment;
 pub struct ReceivingEnd {
     /// The receiver.
     pub receiver: FiniteReceiverHead,
-    /// The runs that it holds.
+    /// The ranges that wait.
     pub runs: [Run; RUNS],
     /// All else that it knows.
     pub head: ReceivingHead,
@@ -63,10 +82,10 @@ pub struct ReceivingEnd {
 #[repr(C)]
 #[derive(Debug, Clone, Copy)]
 pub struct Acknowledgement {
-    /// The first number that is missing.
+    /// The first position that is missing. The end of the stream has one too, after the last byte.
     pub next: u64,
-    /// What came twice since the last one (RFC 2883), unless an end in order let go of it; and then the newest runs
-    /// that are held, the newest first.
+    /// What came twice since the last one (RFC 2883), unless an end in order let go of it; and then the newest waiting
+    /// ranges, the newest first.
     pub blocks: [HeldRun; 4],
     /// How many blocks there are. The others are zeros.
     pub block_count: usize,
@@ -276,8 +295,9 @@ fn in_front(
     }
 }
 
-/// Makes `end` that of a stream that begins at position `first`, at which nothing has arrived, and whose segments
-/// have at most `segment_size` bytes. It is sound with every storage.
+/// Makes `end` the receiving side of a connection, whose stream begins at position `first`, at which nothing has
+/// arrived. The peer's segments have at most `segment_size` bytes, which is the MSS of your SYN. The storage may have
+/// any values.
 ///
 /// It is refused if `first` is `u64::MAX`: false, and nothing changes.
 #[unsafe(no_mangle)]
@@ -300,8 +320,8 @@ pub extern "C" fn net_base_receiving_end_init(
     true
 }
 
-/// Returns whether this head is that of an end whose storage has `capacity` bytes: its receiver is sound with the runs.
-/// It looks at each held run, and at no byte.
+/// Returns whether this head is sound over a storage of `capacity` bytes: its receiver is, with the runs. It looks at
+/// each used run, and at no byte. Ask it of a struct that anything but these calls may have written.
 #[unsafe(no_mangle)]
 pub extern "C" fn net_base_receiving_end_is_sound(end: &ReceivingEnd, capacity: usize) -> bool
     ensures { IsTrue result ↔ HasSoundEnd capacity end.now }
@@ -342,9 +362,10 @@ pub extern "C" fn net_base_receiving_end_open(
     true
 }
 
-/// Returns what to do with a segment, in the window that was announced, whatever is free now. `capacity` is how many
-/// bytes the storage has. It is as RFC 9293, section 3.10.7.4, has it; resets and SYNs are answered as RFC 5961 has it.
-/// While the own window is shut, acknowledgements are taken all the same, so that two full ends hear of one another.
+/// Returns what to do with a segment that arrives after the peer's SYN, in the window that was announced, whatever is
+/// free now. `capacity` is how many bytes the storage has. It is as RFC 9293, section 3.10.7.4, has it; resets and SYNs
+/// are answered as RFC 5961 has it. While your window is shut, acknowledgements are taken all the same, so that two
+/// full ends hear of one another.
 ///
 /// Afterwards `net_base_sending_end_acknowledged` tests what the segment acknowledges.
 #[unsafe(no_mangle)]
@@ -372,9 +393,9 @@ pub extern "C" fn net_base_receiving_end_classify(
 }
 
 /// Takes the bytes of a segment, the first at `position`, and the end if it `is_last`, writes to `counts` how many were
-/// kept, and answers as `net_base_finite_receiver_segment`. An acknowledgement is due for each second segment, and for
-/// one out of order, with the end, or not kept. It is refused if `end` isn't one over `storage.len()` bytes:
-/// `NET_BASE_REFUSED`, and nothing changes.
+/// kept, and returns what `net_base_finite_receiver_segment` does. An acknowledgement is due for each second segment,
+/// and for one out of order, with the end, or not kept. One with neither bytes nor the end changes nothing. It is
+/// refused if `end` isn't one over `storage.len()` bytes: `NET_BASE_REFUSED`, and nothing changes.
 ///
 /// # Requires
 ///
@@ -447,8 +468,10 @@ pub extern "C" fn net_base_receiving_end_is_due(end: &ReceivingEnd) -> bool
     end.head.is_due()
 }
 
-/// Returns whether an acknowledgement is to be sent before the program waits, where the storage has `capacity` bytes:
-/// something came, or an update of the window is worth a segment. Once all has arrived no update is.
+/// Returns whether an acknowledgement is to be sent within half a second (RFC 9293, 3.8.6.3), where the storage has
+/// `capacity` bytes: a segment waits for one, or an update of the window is worth a segment. Once all has arrived no
+/// update is. Ask it before you wait. A segment with bytes that you send in the meantime acknowledges too: ask again
+/// before you send one without.
 ///
 /// It is refused if `end` isn't one over `capacity` bytes: false.
 ///
@@ -466,9 +489,9 @@ pub extern "C" fn net_base_receiving_end_is_wanted(end: &ReceivingEnd, capacity:
     is_plausible(&end.receiver.receiver, capacity, RUNS) && end.head.is_wanted(end.room(capacity))
 }
 
-/// Writes what a segment with bytes of its own tells, takes notice that it does, and returns true: the first missing
-/// number to `next`, and to `window` the window, in units of the scale. An acknowledgement that is due stays so: it
-/// lists runs.
+/// Writes what a segment with bytes of its own tells, and returns true: the first missing position to `next`, and to
+/// `window` the window, in units of the scale. The end counts both as told, so send the segment. An acknowledgement
+/// that is due stays so: it lists ranges.
 ///
 /// It is refused if `end` isn't one over `capacity` bytes: false, and nothing changes.
 ///
@@ -502,8 +525,8 @@ pub extern "C" fn net_base_receiving_end_announce(
     true
 }
 
-/// Writes what a segment without bytes tells, takes notice that it does, and returns true. What came twice is told
-/// once. `capacity` is how many bytes the storage has.
+/// Writes what a segment without bytes tells, and returns true. The end counts it as told, so send the segment. What
+/// came twice is told once. `capacity` is how many bytes the storage has.
 ///
 /// It is refused if `end` isn't one over `capacity` bytes: false, and nothing changes.
 ///
@@ -541,8 +564,8 @@ pub extern "C" fn net_base_receiving_end_acknowledgement(
     true
 }
 
-/// Moves bytes from the head of the queue to the beginning of `into`, and returns how many: as many as are queued and
-/// as `into` has room for. The rest of `into` stays as it is.
+/// Copies bytes from the beginning of the queue to that of `into`, takes them off the queue, and returns how many: as
+/// many as are queued and as `into` has room for. The rest of `into` stays as it is.
 ///
 /// It is refused if `end` isn't one over `storage.len()` bytes: `NET_BASE_NONE`, and nothing changes.
 #[unsafe(no_mangle)]

@@ -16,7 +16,8 @@ pub type SizeStatus = u32;
 
 /// What became of a segment: `DONE`, `TOO_MANY_RUNS`, `OTHER_END` or `REFUSED`.
 ///
-/// - `TOO_MANY_RUNS`: there would be more runs than there is room for. Nothing of it is kept.
+/// - `TOO_MANY_RUNS`: more ranges would wait than there is room for. Nothing of it is kept: the peer has to send it
+///   again.
 /// - `OTHER_END`: the stream can't end there. Nothing of it is kept.
 pub type SegmentStatus = u32;
 
@@ -33,8 +34,8 @@ pub type AcknowledgedStatus = u32;
 /// What the timer's end means: `DONE`, `OVERDUE`, `PROBE`, `LOST` or `REFUSED`.
 ///
 /// - `DONE`: the timer hasn't ended, or a probe is due and the peer reports nothing, so that it couldn't answer.
-/// - `PROBE`: the next segment is a probe of a shut window, or, with nothing in flight, has what was held back. Halve
-///   nothing, and forget what an earlier halving would be undone to: `net_base_sending_end_take_back` may be true then.
+/// - `PROBE`: the next segment is a probe of a shut window, or, with nothing in flight, has what was held back. That is
+///   no sign of congestion: leave the congestion window as it is.
 pub type ExpiredStatus = u32;
 
 /// Whether a segment is to be sent: `DONE`, `NOTHING` or `REFUSED`.
@@ -45,7 +46,7 @@ pub type OutgoingStatus = u32;
 /// The call was done.
 pub const NET_BASE_DONE: Status = 0;
 
-/// There would be more runs than the slice has elements. Nothing changes.
+/// There would be more runs than the array has elements. Nothing changes.
 pub const NET_BASE_TOO_MANY_RUNS: Status = 1;
 
 /// What was passed is nonsense. Nothing changes.
@@ -64,14 +65,14 @@ pub const NET_BASE_OTHER_END: Status = 5;
 /// Take what a segment acknowledges, its window, its bytes and its end.
 pub const NET_BASE_TAKE: Status = 6;
 
-/// Take what a segment acknowledges and its window, but not its bytes, and answer it: the own window is shut, and the
-/// peer asks whether it has opened; or the segment is empty and below the window, as an old acknowledgement or a
-/// keep-alive.
+/// Take what a segment acknowledges and its window, but not its bytes, and answer it: your window is shut, and the peer
+/// asks whether it has opened; or the segment is empty and below the window, as an old acknowledgement or a keep-alive.
 pub const NET_BASE_ACKNOWLEDGEMENT_ONLY: Status = 7;
 
 /// Send an acknowledgement, and take nothing of a segment. If it has neither SYN nor RST, and all its bytes are below
-/// the first missing number, pass these to `net_base_receiving_end_arrived` before that: it keeps none, but the answer
-/// then reports what came twice (RFC 2883).
+/// the first missing position, also pass these to `net_base_receiving_end_arrived`, before or after
+/// `net_base_receiving_end_answer`: it keeps none, but the acknowledgement that follows reports what came twice (RFC
+/// 2883).
 pub const NET_BASE_ANSWER: Status = 8;
 
 /// Take nothing of a segment, and send nothing.
@@ -83,15 +84,15 @@ pub const NET_BASE_RESET: Status = 10;
 /// The next segment is a probe of a shut window, or, with nothing in flight, has what was held back.
 pub const NET_BASE_PROBE: Status = 11;
 
-/// No answer has come in time: what is overdue is lost, and if nothing of it may be sent, the next segment is a probe
-/// for an answer.
+/// No answer has come in time. What is late counts as lost, and `net_base_sending_end_next_segment` sends it again. If
+/// it has none to send, it sends a probe, which asks for an answer.
 pub const NET_BASE_OVERDUE: Status = 13;
 
 /// All that was sent is lost: let one segment be in flight. `net_base_sending_end_take_back` may undo that, as it does
 /// a halving.
 pub const NET_BASE_LOST: Status = 14;
 
-/// An old one: it says nothing but what came twice, if its first block does, and nothing else changes. Then
+/// An old acknowledgement: of it only a first block that says what came twice counts, and nothing else changes. Then
 /// `net_base_sending_end_take_back` may be true. The bytes of its segment may be new.
 pub const NET_BASE_OLD: Status = 15;
 

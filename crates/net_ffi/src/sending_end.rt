@@ -1,15 +1,15 @@
 //! The sending end of a stream as one machine: a sender of a stream that ends, what the peer has reported, what is
-//! lost, the timer, and the peer's window. A program needs few of the fields below: it reads those of `sender`, and
-//! fills in `TimeoutBounds`. All others, such as those of `LossRecovery`, are for the calls alone, and may differ in
-//! the next version.
+//! lost, the timer, and the peer's window. A program needs few of the fields below: it fills in `TimeoutBounds`, and
+//! net_bound.h has calls that read those of `sender`. All others, such as those of `LossRecovery`, are for the calls
+//! alone, and may differ in the next version.
 //!
 //! A head of zeros is new, of a stream that begins at position 0, whose first timeout is 1 second within the RFC's
-//! bounds. All of an end is in its head but the bytes: at most 16 runs are remembered of what was reported, enough for
-//! windows of up to 256 KiB on paths that reorder. `net_base_sending_end_write` alone is passed the storage: others
-//! need at most its capacity. Where the peer's SYN has come, `net_base_sending_end_open` begins with it. Each segment
-//! that is taken is acknowledged by `net_base_sending_end_acknowledged`. What is to be sent,
-//! `net_base_sending_end_next_segment` says, until it says that nothing is, and `net_base_sending_end_bytes` where it
-//! is. At the moment of `net_base_sending_end_expires_at` the timer is asked by `net_base_sending_end_expired`.
+//! bounds. All of an end is in its head but the bytes: at most 16 ranges are remembered of what was reported, enough
+//! for windows of 128 segments on paths that lose or reorder. `net_base_sending_end_write` alone is passed the storage: others
+//! need at most its capacity. When the peer's SYN has come, `net_base_sending_end_open` begins with it. What a segment
+//! acknowledges, pass to `net_base_sending_end_acknowledged`. `net_base_sending_end_next_segment` says what to send,
+//! until it says that nothing is, and `net_base_sending_end_bytes` where that is. At the moment that
+//! `net_base_sending_end_expires_at` writes, call `net_base_sending_end_expired`.
 //!
 //! A number whose flag is false doesn't count, whatever it is. A timeout of 0 that counts passes at once, and then
 //! becomes the least one; no call writes such a timeout.
@@ -78,7 +78,7 @@ pub struct SendingEnd {
 pub struct TakenAcknowledgement {
     /// What became of it.
     pub status: AcknowledgedStatus,
-    /// How many numbers it acknowledged that weren't before.
+    /// How many positions it acknowledged that weren't before.
     pub count: u64,
     /// Whether a block of it reports what wasn't known.
     pub reports: bool,
@@ -104,7 +104,7 @@ pub struct OutgoingSegment {
     pub status: OutgoingStatus,
     /// The position of its first byte, or of the end; 0 if there is none.
     pub position: u64,
-    /// The number after its last one, that of the end among them; 0 if there is none.
+    /// The position after its last one, where the end has one too; 0 if there is none.
     pub end: u64,
     /// Whether some of it was sent before.
     pub is_again: bool,
@@ -396,8 +396,9 @@ fn new_end(first: u64, first_timeout: u64, bounds: &TimeoutBounds) -> SendingEnd
     }
 }
 
-/// Makes `end` the end of a stream that begins at position `first`, to which nothing was written. `first_timeout` is
-/// that before any sample: 1 second for TCP (RFC 6298, 2.1), as which 0 counts.
+/// Makes `end` the sending side of a connection, whose stream begins at position `first`, and to which nothing was
+/// written. `first_timeout` is that before any sample: 1 second for TCP (RFC 6298, 2.1), as which 0 counts. The storage
+/// may have any values.
 ///
 /// It is refused if `first` is `u64::MAX`, since an end there would have no number after it: false, and nothing
 /// changes.
@@ -423,7 +424,8 @@ pub extern "C" fn net_base_sending_end_init(
 }
 
 /// Returns whether the end is sound over a storage of `capacity` bytes: `sender` is that of a sender over as many, and
-/// `head.buffer.scoreboard` is sound with `runs`. All other numbers may be any. It looks at each used run.
+/// `runs` are those of `head.buffer.scoreboard`. All other numbers may be any. It looks at each used run. Calls that
+/// need it test it themselves.
 #[unsafe(no_mangle)]
 pub extern "C" fn net_base_sending_end_is_sound(end: &SendingEnd, capacity: usize) -> bool
     ensures { IsTrue result ↔ IsSoundSending capacity end.now }
@@ -432,9 +434,10 @@ pub extern "C" fn net_base_sending_end_is_sound(end: &SendingEnd, capacity: usiz
 }
 
 /// Begins with a peer, whose SYN announced a window, how many bytes a segment may have, and whether it reports blocks
-/// (SACK): one that doesn't couldn't answer a probe, and is sent none. `announcement.ack` is the own first position,
-/// even if the SYN has no ACK. What was written stays. It is done once, before anything is sent; a second time begins
-/// with another peer, and the timer runs if something is in flight.
+/// (SACK): one that doesn't couldn't answer a probe, and is sent none. `announcement.seq` is the SYN's position, and
+/// `announcement.ack` your first position, even if the SYN has no ACK. `segment_size` counts bytes of the stream alone:
+/// pass the peer's MSS less the options that each of your segments has (RFC 6691). What was written stays. It is done
+/// once, before anything is sent; a second time begins with another peer, and the timer runs if something is in flight.
 ///
 /// It is refused if `end` isn't sound over `capacity` bytes: false, and nothing changes.
 #[unsafe(no_mangle)]
@@ -470,7 +473,7 @@ pub extern "C" fn net_base_sending_end_open(
 }
 
 /// Returns whether a SYN is to be sent now, the first one or one after a timeout, and starts the timer for the next.
-/// Ask it only until something is acknowledged, at which it doesn't look.
+/// Ask it only until your SYN is acknowledged: it doesn't test that.
 ///
 /// It is refused if `end` isn't sound over `capacity` bytes: false, and nothing changes.
 #[unsafe(no_mangle)]
@@ -622,10 +625,10 @@ pub extern "C" fn net_base_sending_end_expired(
     }
 }
 
-/// Returns whether the last recovery was for nothing, and ends it then: nothing that was found lost is missing but what
-/// was sent again, and all that was sent again came twice (RFC 3708). Then the congestion window may be what it was
-/// when the recovery began. Ask it after each acknowledgement, an old one too. It is true once: not before another
-/// recovery begins, or the timer ends. After `NET_BASE_EXPIRED_PROBE` it can be true though nothing was halved.
+/// Returns whether the last recovery was spurious, and ends it then: nothing had been lost, since all that was sent
+/// again came twice (RFC 3708), and the rest arrived. Then restore the congestion window of before the recovery. Ask it
+/// after each acknowledgement, an old one too. It is true at most once after each sign of congestion: a `begins` that is
+/// true, or `NET_BASE_EXPIRED_LOST`.
 ///
 /// It is refused if `end` isn't sound over `capacity` bytes: false, and nothing changes.
 #[unsafe(no_mangle)]
@@ -647,9 +650,9 @@ pub extern "C" fn net_base_sending_end_take_back(end: &mut SendingEnd, capacity:
     end.head.buffer.take_back(&end.runs, numbers)
 }
 
-/// Returns the segment that is to be sent now, and takes notice that it is: if the peer's window and the congestion
-/// window have room for one, or as a probe. `congestion_window` is how many bytes may be in flight, but one segment may
-/// be, however small it is. Less than a whole segment may be held back (RFC 9293, 3.8.6.2.1, and Nagle's rule).
+/// Returns the segment that is to be sent now, and counts it as sent: if the peer's window and the congestion window
+/// have room for one, or as a probe. `congestion_window` is how many bytes may be in flight, but one segment may be,
+/// however small it is. Less than a whole segment may be held back (RFC 9293, 3.8.6.2.1, and Nagle's rule).
 ///
 /// It is refused if `end` isn't sound over `capacity` bytes: `position` and `end` are 0, `is_again` is false, the
 /// status is `NET_BASE_REFUSED`, and nothing changes.
@@ -689,8 +692,8 @@ pub extern "C" fn net_base_sending_end_next_segment(
     }
 }
 
-/// Returns where the bytes of a segment from `position` on are, whose numbers are below `limit`, in two parts, and
-/// whether the stream ends after them. Of a position that is acknowledged there are none.
+/// Returns where the bytes of a segment from `position` on, and below `limit`, are, in two parts, and whether the
+/// stream ends after them. Of a position that is acknowledged there are none.
 ///
 /// It is refused if `sender` isn't that of a sender over `capacity` bytes: `from` is `NET_BASE_NONE`, `count`,
 /// `rest_from` and `rest_count` are 0, `is_last` is false.
@@ -734,8 +737,7 @@ pub extern "C" fn net_base_sending_end_is_done(end: &SendingEnd) -> bool
     end.sender.is_closed_and_acknowledged()
 }
 
-/// Returns whether the timer runs, and writes to `moment` when `net_base_sending_end_expired` is to be asked, if it
-/// does.
+/// Returns whether the timer runs, and if so writes to `moment` when to call `net_base_sending_end_expired`.
 #[unsafe(no_mangle)]
 pub extern "C" fn net_base_sending_end_expires_at(end: &SendingEnd, moment: &mut i64) -> bool
     ensures value { (storage : List ℕ) →
@@ -754,7 +756,7 @@ pub extern "C" fn net_base_sending_end_expires_at(end: &SendingEnd, moment: &mut
 
 /// Returns the position that an empty segment has, as an acknowledgement alone: its sequence number.
 ///
-/// It is refused if the first number that isn't acknowledged doesn't fit 64 bits: `u64::MAX`.
+/// It is refused if the first position that isn't acknowledged doesn't fit 64 bits: `u64::MAX`.
 #[unsafe(no_mangle)]
 pub extern "C" fn net_base_sending_end_empty_segment_position(end: &SendingEnd) -> u64
     ensures value { end.now.sender.sender.first_unacknowledged + end.now.sender.finished < 2 ^ 64 →
@@ -773,7 +775,7 @@ pub extern "C" fn net_base_sending_end_empty_segment_position(end: &SendingEnd) 
 
 /// Returns whether a recovery lasts.
 ///
-/// It is refused if the first number that isn't acknowledged doesn't fit 64 bits: false.
+/// It is refused if the first position that isn't acknowledged doesn't fit 64 bits: false.
 #[unsafe(no_mangle)]
 pub extern "C" fn net_base_sending_end_is_recovering(end: &SendingEnd) -> bool
     ensures value { end.now.sender.sender.first_unacknowledged + end.now.sender.finished < 2 ^ 64 →

@@ -26,15 +26,15 @@ mod managed;
 /// A packet has a header and bytes that are contiguous in the storage. If a packet does not fit
 /// before the storage's end, it is placed at the storage's beginning, and the bytes before the end
 /// are skipped as its gap. A packet uses one slot, and a gap, which never has 0 bytes, one more.
-/// Packets leave in the order in which they were put in.
+/// Packets leave in the order in which they came.
 ///
 /// ```text
 /// bytes    y y y y y y x x x x x x x x - -     x of 8 bytes, then y of 6 after a gap of 2
 /// slots    x, gap, y
 /// ```
 ///
-/// Which packets are refused depends on the number of slots, the number of bytes, the read index, and
-/// the sizes and gaps of the packets.
+/// In guarantees `contents` has the packets in order, as pairs of a header and bytes. `head_bytes`
+/// has the bytes of the first one, and `++` joins lists.
 #[derive(Debug, Drop)]
 pub struct PacketsOver<H, M: Storage<PacketMetadata<H>>, B: Storage<u8>> {
     // Invariant: the head is sound for the storages. The slots in use are packets and gaps, whose sizes
@@ -46,10 +46,11 @@ pub struct PacketsOver<H, M: Storage<PacketMetadata<H>>, B: Storage<u8>> {
     headers: PhantomData<H>,
 }
 
-/// A queue of whole packets, each with a header, over storage that is lent or owned. Its calls are
-/// those of [`PacketsOver`].
+/// A first-in, first-out queue of whole packets, each with a header, over storage that is lent or
+/// owned. Its methods are those of [`PacketsOver`].
 ///
-/// It serves sockets of datagrams, such as those of UDP and ICMP. A packet that doesn't fit is refused.
+/// It serves sockets of datagrams, such as those of UDP and ICMP. It refuses a packet that doesn't
+/// fit: it returns an error, and changes nothing.
 ///
 /// ```
 /// use net_base::storage::{Full, PacketBuffer, PacketMetadata};
@@ -82,8 +83,8 @@ impl<H, M: Storage<PacketMetadata<H>>, B: Storage<u8>> Model for PacketsOver<H, 
 
 /// Making, emptying and measuring a queue.
 impl<H, M: Storage<PacketMetadata<H>>, B: Storage<u8>> PacketsOver<H, M, B> {
-    /// Returns a queue with no packets over storages of any type. smoltcp has no such call:
-    /// [`PacketBuffer::new`] is the one for two [`ManagedSlice`].
+    /// Returns an empty queue over storage of any type. (Not in smoltcp.) [`PacketBuffer::new`]
+    /// takes slices, vectors or boxes.
     ///
     /// ```
     /// # use net_base::storage::{PacketMetadata, PacketsOver};
@@ -146,7 +147,7 @@ impl<H, M: Storage<PacketMetadata<H>>, B: Storage<u8>> PacketsOver<H, M, B> {
         self.head.slots.length == self.slots.count()
     }
 
-    /// Returns whether a packet of `size` bytes can be appended. smoltcp has no such call.
+    /// Returns whether a packet of `size` bytes can be appended. (Not in smoltcp.)
     ///
     /// ```
     /// # use net_base::storage::{PacketBuffer, PacketMetadata};
@@ -215,8 +216,8 @@ impl<H, M: Storage<PacketMetadata<H>>, B: Storage<u8>> PacketsOver<H, M, B> {
         self.head.bytes.length
     }
 
-    /// Returns the number of slots used: one for each packet and one for each gap. smoltcp has no such
-    /// call.
+    /// Returns the number of slots used: one for each packet and one for each gap. (Not in
+    /// smoltcp.)
     ///
     /// ```
     /// # use net_base::storage::{PacketBuffer, PacketMetadata};
@@ -235,8 +236,8 @@ impl<H, M: Storage<PacketMetadata<H>>, B: Storage<u8>> PacketsOver<H, M, B> {
         self.head.slots.length
     }
 
-    /// Returns how many packets the queue has. It looks at each slot in use, to leave out the gaps. smoltcp has
-    /// no such call.
+    /// Returns how many packets the queue has. It looks at each slot in use, to leave out the gaps.
+    /// (Not in smoltcp.)
     ///
     /// ```
     /// # use net_base::storage::{PacketBuffer, PacketMetadata};
@@ -260,8 +261,8 @@ impl<H, M: Storage<PacketMetadata<H>>, B: Storage<u8>> PacketsOver<H, M, B> {
         count
     }
 
-    /// Empties the queue. The bytes of the storage stay as they are. When headers are dropped is
-    /// unspecified.
+    /// Empties the queue. The bytes of the storage stay as they are. It is unspecified when headers
+    /// are dropped.
     ///
     /// In smoltcp this call is private.
     ///
@@ -284,12 +285,12 @@ impl<H, M: Storage<PacketMetadata<H>>, B: Storage<u8>> PacketsOver<H, M, B> {
     }
 }
 
-/// Packets that are appended.
+/// Appending packets.
 impl<H: Drop, M: Storage<PacketMetadata<H>>, B: Storage<u8>> PacketsOver<H, M, B> {
     ghost use Rattle.net_packets.specs.PacketLends.{lends_bytes, lends_bytes_if};
 
-    /// Appends a packet of `size` bytes and lends them. Until they are written they are those that
-    /// were in the storage. An empty queue begins at the storage's beginning.
+    /// Appends a packet of `size` bytes, and lends them as the storage has them. An empty queue
+    /// starts over at the storage's beginning.
     ///
     /// ```
     /// # use net_base::storage::{Full, PacketBuffer, PacketMetadata};
@@ -304,8 +305,8 @@ impl<H: Drop, M: Storage<PacketMetadata<H>>, B: Storage<u8>> PacketsOver<H, M, B
     /// # Errors
     ///
     /// `Full` if there are no `size` contiguous free bytes, or no slot for the packet or its gap.
-    /// Then the header is dropped, and nothing changes. If smoltcp refuses, it can leave a gap with
-    /// no packet.
+    /// Then the header is dropped, and nothing changes. smoltcp can leave a gap with no packet
+    /// then.
     pub fn enqueue(&mut self, size: usize, header: H) -> Result<&mut [u8], Full>
         ensures* writes_back { sem 𝓛 (lends_bytes_if H.row M.row B.row M.Storage B.Storage
             self.entry result (with_last_bytes (with_packet_if_room self.old size header))) }
@@ -403,8 +404,7 @@ impl<H: Drop, M: Storage<PacketMetadata<H>>, B: Storage<u8>> PacketsOver<H, M, B
         self.last_part_mut(size)
     }
 
-    /// Appends a packet whose bytes are `data`, as [`PacketsOver::enqueue`] does. smoltcp has no
-    /// such call.
+    /// Appends a packet whose bytes are `data`, as [`PacketsOver::enqueue`] does. (Not in smoltcp.)
     ///
     /// ```
     /// # use net_base::storage::{Full, PacketBuffer, PacketMetadata};
@@ -436,8 +436,8 @@ impl<H: Drop, M: Storage<PacketMetadata<H>>, B: Storage<u8>> PacketsOver<H, M, B
         Ok(())
     }
 
-    /// Appends a packet whose bytes `f` writes: `f` is lent `max_size` bytes, and returns how many
-    /// of them, from the first on, are the packet. That number is returned.
+    /// Appends a packet that `f` writes. `f` is lent `max_size` bytes, and returns how many of the
+    /// first ones are the packet. That number is returned.
     ///
     /// smoltcp places these packets by a rule of its own and can take more than `max_size` bytes.
     ///
@@ -461,7 +461,7 @@ impl<H: Drop, M: Storage<PacketMetadata<H>>, B: Storage<u8>> PacketsOver<H, M, B
     ///
     /// # Requires
     ///
-    /// `f` takes the `max_size` bytes that it is lent, and returns at most `max_size`.
+    /// `f` returns at most `max_size`.
     #[track_caller]
     #[tactic(auto, using(crate::proofs::HeadParts::placement_is))]
     pub fn enqueue_with_infallible<F: FnOnce(&mut [u8]) -> usize>(
@@ -497,13 +497,13 @@ impl<H: Drop, M: Storage<PacketMetadata<H>>, B: Storage<u8>> PacketsOver<H, M, B
     }
 }
 
-/// The first packet, shown and taken off.
+/// Reading the first packet, and taking it off.
 impl<H: Drop, M: Storage<PacketMetadata<H>>, B: Storage<u8>> PacketsOver<H, M, B> {
     ghost use Rattle.net_packets.specs.PacketLends.{lends_bytes, lends_packet_if, ends_as};
 
-    /// Calls `f` on the header and the bytes of the first packet, which `f` has to take, and drops its
-    /// gap. If `f` returns `Ok`, the packet is taken off; if it returns `Err`, the packet stays first,
-    /// with what `f` wrote to its header and bytes.
+    /// Calls `f` on the header and the bytes of the first packet, and drops its gap. If `f` returns
+    /// `Ok`, the packet is taken off; if it returns `Err`, the packet stays first, with what `f`
+    /// wrote to its header and bytes.
     ///
     /// ```
     /// # use net_base::storage::{Full, PacketBuffer, PacketMetadata};
@@ -682,7 +682,7 @@ impl<H: Drop, M: Storage<PacketMetadata<H>>, B: Storage<u8>> PacketsOver<H, M, B
     /// Takes the first packet and its gap off, copies as many of its bytes as `into` has room for,
     /// and returns its header and how many bytes were copied. Bytes that don't fit are lost.
     ///
-    /// smoltcp has no such call.
+    /// (Not in smoltcp.)
     ///
     /// ```
     /// # use net_base::storage::{PacketBuffer, PacketMetadata};

@@ -1,6 +1,6 @@
 //! The slots of a packet queue.
 
-/// A slot of a packet queue: size and header of a packet, or the size of a gap. A size is in bytes.
+/// A slot of a packet queue. It has a packet's size and header, or the size of a gap, in bytes.
 ///
 /// ```
 /// use net_base::storage::PacketMetadata;
@@ -15,7 +15,7 @@ pub struct PacketMetadata<H> {
 }
 
 impl<H> PacketMetadata<H> {
-    /// A slot with no header and of size 0, to fill the storage of the slots with.
+    /// An empty slot. Storage of slots is made of it.
     ///
     /// ```
     /// # use net_base::storage::PacketMetadata;

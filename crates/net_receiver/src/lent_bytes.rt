@@ -14,8 +14,8 @@
 /// ```
 #[derive(Copy, Clone, Debug, PartialEq, Eq)]
 pub struct LentBytes<'a> {
-    /// As many bytes as are contiguous in the storage.
+    /// The bytes, up to the storage's end.
     pub bytes: &'a [u8],
-    /// Whether the segment has the stream's end, as TCP's FIN or QUIC's FIN bit says.
+    /// Whether the stream ends after them, as TCP's FIN or QUIC's FIN bit says.
     pub fin: bool,
 }

@@ -21,7 +21,7 @@ use net_assembler::{AssemblerHead, Run};
 use net_ring::width::most;
 use thiserror::Error;
 
-/// Why a SACK block isn't taken. Nothing changes then.
+/// Why a SACK block was refused. Nothing has changed then.
 ///
 /// ```
 /// use net_base::scoreboard::{ReportError, Scoreboard};
@@ -33,12 +33,12 @@ use thiserror::Error;
 /// ```
 #[derive(Debug, Clone, Copy, PartialEq, Eq, Hash, Drop, Error)]
 pub enum ReportError {
-    /// No such block can be: it has no position, or one that was never sent, or it ends too far above the
-    /// first position that wasn't reported.
-    #[error("the block isn't of what was sent")]
+    /// The block is empty, ends above what was sent, or ends too far above the first position that wasn't reported.
+    /// Ignore it.
+    #[error("the block isn't of what was sent: ignore it")]
     NoBlock,
-    /// It would make more runs than there is room for. Its bytes are sent again.
-    #[error("too many holes")]
+    /// The block would make more ranges than there is room for. Ignore it: its bytes are sent again.
+    #[error("too many holes: ignore the block")]
     TooManyHoles,
 }
 

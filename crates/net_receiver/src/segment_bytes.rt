@@ -1,7 +1,7 @@
 //! The bytes of a range of a stream, wherever the storage ends.
 #![tactic(auto)]
 
-/// The bytes of a segment, in two parts: the storage may end between them.
+/// The bytes of a segment, in two parts, since the storage may end between them.
 ///
 /// ```
 /// use net_base::finite::FiniteSender;

@@ -1,4 +1,5 @@
-//! What a stream that ends sends, and sends again: its bytes, in a ring, and their numbers, as `SendRanges` knows them.
+//! What a stream that ends sends, and sends again: its bytes, in a ring, and their positions, as `SendRanges` knows
+//! them.
 #![tactic(auto, using(crate::proofs::SendRanges::buffers))]
 
 ghost use Rattle.std.specs.Prelude.{◌≡◌, ◌↔◌, ◌-◌, ◌+◌, ◌<◌, ◌≤◌, ◌&&◌, ◌++◌, ◌==◌, ℕ, None, IsTrue, IsFalse, IfSome};
@@ -23,27 +24,26 @@ use net_ring::{ManagedSlice, Storage};
 use std::marker::Model;
 use std::ops::Range;
 
-/// The sending side of a QUIC stream: its bytes, and which of them are acknowledged, in flight and lost. It is over
-/// storages that are lent or owned, and its calls are those of [`SendBufferOver`].
+/// The sending side of a QUIC stream: its bytes, and which of them are acknowledged, in flight and lost. Its storages
+/// are lent or owned, and its calls are those of [`SendBufferOver`].
 ///
 /// ```
 /// use net_base::finite::SendBuffer;
 /// use net_base::storage::Run;
 ///
-/// // 64 bytes may wait. 4 runs are remembered that are acknowledged out of order, and 4 in flight beyond a loss.
-/// let (mut storage, mut acknowledged, mut settled) = ([0; 64], [Run::EMPTY; 4], [Run::EMPTY; 4]);
-/// let buffer = SendBuffer::new_at(&mut storage, &mut acknowledged, &mut settled, 0);
+/// // 64 bytes may wait. 4 ranges are remembered that are acknowledged out of order, and 4 in flight above a loss.
+/// let (mut storage, mut acknowledged, mut sent) = ([0; 64], [Run::EMPTY; 4], [Run::EMPTY; 4]);
+/// let buffer = SendBuffer::new_at(&mut storage, &mut acknowledged, &mut sent, 0);
 /// assert_eq!((buffer.window(), buffer.numbers_end()), (64, 0));
 /// ```
 pub type SendBuffer<'a> = SendBufferOver<ManagedSlice<'a, u8>, ManagedSlice<'a, Run>>;
 
 /// A [`SendBuffer`] over any storages. (Not in smoltcp.)
 ///
-/// It is a [`SendRangesOver`] with the bytes of its numbers, in a ring. What is said there of
-/// ranges, and of how many runs are enough, is so here.
+/// It is a [`SendRangesOver`] that also keeps the bytes, in a ring. Its page says what a position is, and how many
+/// ranges (*runs*, in names) are enough.
 ///
-/// Positions are absolute, and the end has the number after the last byte's, as a `FiniteSender` counts them. No call
-/// allocates.
+/// No call allocates.
 ///
 /// ```
 /// use net_base::finite::SendBuffer;
@@ -60,7 +60,7 @@ pub type SendBuffer<'a> = SendBufferOver<ManagedSlice<'a, u8>, ManagedSlice<'a, 
 ///     assert!(stream.mark(range));
 /// }
 /// assert_eq!(frames[0], (0, b"nineteen".to_vec(), false));
-/// assert_eq!(frames[2], (16, b"ere".to_vec(), true)); // range 16..20: the end has the number 19
+/// assert_eq!(frames[2], (16, b"ere".to_vec(), true)); // range 16..20: the FIN's position is 19
 /// assert_eq!(frames.len(), 3);
 /// // The packets of the first and the last frame are lost, and that of the second one is acknowledged.
 /// assert_eq!(stream.acknowledge(8..16).map(|it| it.new), Ok(8));
@@ -103,7 +103,9 @@ impl<S: Storage<u8> + Drop, R: Storage<Run> + Drop> Drop for SendBufferOver<S, R
 }
 
 impl<S: Storage<u8>, R: Storage<Run>> SendBufferOver<S, R> {
-    /// Returns the buffer of a stream that begins at position `first`, to which nothing was written.
+    /// Returns the buffer of a stream that begins at position `first`, to which nothing was written. `acknowledged`
+    /// stores ranges that were acknowledged out of order, `sent` those in flight above the first lost byte. Both have
+    /// room for the same number of ranges.
     ///
     /// ```
     /// # use net_base::finite::SendBufferOver;
@@ -114,29 +116,26 @@ impl<S: Storage<u8>, R: Storage<Run>> SendBufferOver<S, R> {
     ///
     /// # Requires
     ///
-    /// `acknowledged` and `settled` have as many runs, which may be none. `first` is below `u64::MAX`: an end there
-    /// would have no number after it.
+    /// `acknowledged` and `sent` have the same length, which may be 0, and `first` is below `u64::MAX`: no stream can
+    /// end there.
     #[must_use]
     #[track_caller]
-    pub fn over_at(storage: S, acknowledged: R, settled: R, first: u64) -> Self
-        requires runs { length (R.elements settled) ≡ length (R.elements acknowledged) }
+    pub fn over_at(storage: S, acknowledged: R, sent: R, first: u64) -> Self
+        requires runs { length (R.elements sent) ≡ length (R.elements acknowledged) }
         requires end { first < no_end }
         ensures { result
             ≡ new_send_buffer (length (S.elements storage)) (length (R.elements acknowledged))
             first }
     {
-        prove!(
-            settled.count() == acknowledged.count(),
-            "two numbers of runs"
-        );
+        prove!(sent.count() == acknowledged.count(), "two numbers of runs");
         prove!(first < u64::MAX, "no number is left for an end");
         SendBufferOver {
             sender: FiniteSenderOver::over_at(storage, first),
-            ranges: SendRangesOver::over_at(acknowledged, settled, first),
+            ranges: SendRangesOver::over_at(acknowledged, sent, first),
         }
     }
 
-    /// Returns the storages of the bytes and of both sets. What is in them can be any.
+    /// Returns the storages: that of the bytes, `acknowledged`, and `sent`. Their contents are unspecified.
     ///
     /// ```
     /// # use net_base::finite::SendBufferOver;
@@ -148,7 +147,7 @@ impl<S: Storage<u8>, R: Storage<Run>> SendBufferOver<S, R> {
     pub fn into_storages(self) -> (S, R, R)
         ensures bytes { length (S.elements result.0) ≡ self.sender.sender.capacity }
         ensures acknowledged { length (R.elements result.1) ≡ self.ranges.most_runs }
-        ensures settled { length (R.elements result.2) ≡ self.ranges.most_runs }
+        ensures sent { length (R.elements result.2) ≡ self.ranges.most_runs }
     {
         let SendBufferOver { sender, ranges } = self;
         let (acknowledged, settled) = ranges.into_storages();
@@ -168,7 +167,7 @@ impl<S: Storage<u8>, R: Storage<Run>> SendBufferOver<S, R> {
     ///
     /// # Requires
     ///
-    /// `first` is below `u64::MAX`: an end there would have no number after it.
+    /// `first` is below `u64::MAX`: no stream can end there.
     #[track_caller]
     pub fn reset_at(&mut self, first: u64)
         requires { first < no_end }
@@ -180,7 +179,7 @@ impl<S: Storage<u8>, R: Storage<Run>> SendBufferOver<S, R> {
         self.ranges.reset_at(first);
     }
 
-    /// Moves the bytes to a larger storage, and returns the one from before, as `FiniteSenderOver::grow` does. What is
+    /// Moves the bytes to a larger storage, and returns the old one, as `FiniteSenderOver::grow` does. What is
     /// acknowledged, in flight and lost stays so.
     ///
     /// ```
@@ -207,7 +206,7 @@ impl<S: Storage<u8>, R: Storage<Run>> SendBufferOver<S, R> {
         self.sender.grow(larger)
     }
 
-    /// Moves the runs to larger storages, and returns those from before, as `SendRangesOver::grow_runs` does.
+    /// Moves the ranges to larger storages, and returns the old ones, as `SendRangesOver::grow_runs` does.
     ///
     /// ```
     /// # use net_base::finite::SendBuffer;
@@ -220,26 +219,23 @@ impl<S: Storage<u8>, R: Storage<Run>> SendBufferOver<S, R> {
     ///
     /// # Requires
     ///
-    /// Both have as many runs, and at least `most_runs`.
+    /// Both storages have the same length, which is at least `most_runs`.
     #[track_caller]
-    pub fn grow_runs(&mut self, acknowledged: R, settled: R) -> (R, R)
-        requires runs { length (R.elements settled) ≡ length (R.elements acknowledged) }
+    pub fn grow_runs(&mut self, acknowledged: R, sent: R) -> (R, R)
+        requires runs { length (R.elements sent) ≡ length (R.elements acknowledged) }
         requires more { self.old.ranges.most_runs ≤ length (R.elements acknowledged) }
         ensures state { self.new ≡ record self.old {
           ranges = record self.old.ranges { most_runs = length (R.elements acknowledged) };
         } }
         ensures acknowledged { length (R.elements result.0) ≡ self.old.ranges.most_runs }
-        ensures settled { length (R.elements result.1) ≡ self.old.ranges.most_runs }
+        ensures sent { length (R.elements result.1) ≡ self.old.ranges.most_runs }
     {
-        prove!(
-            settled.count() == acknowledged.count(),
-            "two numbers of runs"
-        );
+        prove!(sent.count() == acknowledged.count(), "two numbers of runs");
         prove!(acknowledged.count() >= self.most_runs(), "fewer runs");
-        self.ranges.grow_runs(acknowledged, settled)
+        self.ranges.grow_runs(acknowledged, sent)
     }
 
-    /// Returns how many runs each storage of them has.
+    /// Returns how many ranges `acknowledged` and `sent` have room for each.
     ///
     /// ```
     /// # use net_base::finite::SendBuffer;
@@ -254,7 +250,7 @@ impl<S: Storage<u8>, R: Storage<Run>> SendBufferOver<S, R> {
         self.ranges.most_runs()
     }
 
-    /// Returns how many bytes have room: the storage's length.
+    /// Returns the length of the bytes' storage.
     ///
     /// ```
     /// # use net_base::finite::SendBuffer;
@@ -277,7 +273,7 @@ impl<S: Storage<u8>, R: Storage<Run>> SendBufferOver<S, R> {
         self.sender.window()
     }
 
-    /// Returns whether all that was written is acknowledged, and the end.
+    /// Returns whether the stream is closed, and all its bytes and the FIN are acknowledged.
     ///
     /// ```
     /// # use net_base::finite::SendBuffer;
@@ -296,7 +292,7 @@ impl<S: Storage<u8>, R: Storage<Run>> SendBufferOver<S, R> {
         self.sender.is_closed_and_acknowledged()
     }
 
-    /// Returns whether the stream ends after what was written.
+    /// Returns whether the stream is closed: it ends after what was written.
     #[must_use]
     pub fn is_closed(&self) -> bool
         ensures { result ≡ self.now.ranges.closed }
@@ -304,8 +300,8 @@ impl<S: Storage<u8>, R: Storage<Run>> SendBufferOver<S, R> {
         self.ranges.is_closed()
     }
 
-    /// Returns the first number that isn't acknowledged, and the one after the last that was sent. A range that starts
-    /// below the latter is sent again.
+    /// Returns the first position that isn't acknowledged, and the one after the last that was sent. A range from
+    /// `next` that starts below the latter is sent again.
     ///
     /// ```
     /// # use net_base::finite::SendBuffer;
@@ -325,7 +321,7 @@ impl<S: Storage<u8>, R: Storage<Run>> SendBufferOver<S, R> {
         self.ranges.numbers()
     }
 
-    /// Returns the number after the last byte's, and after the end's once the stream is closed.
+    /// Returns the position after the last byte, or after the FIN once the stream is closed.
     #[must_use]
     pub fn numbers_end(&self) -> u64
         ensures { result ≡ end_number self.now.ranges }
@@ -333,7 +329,7 @@ impl<S: Storage<u8>, R: Storage<Run>> SendBufferOver<S, R> {
         self.ranges.numbers_end()
     }
 
-    /// Enqueues the first of these bytes, as many as there is room for, and returns how many.
+    /// Enqueues the first of these bytes, up to `window`, and returns how many.
     ///
     /// ```
     /// # use net_base::finite::SendBuffer;
@@ -343,6 +339,7 @@ impl<S: Storage<u8>, R: Storage<Run>> SendBufferOver<S, R> {
     /// ```
     #[must_use]
     pub fn write(&mut self, bytes: &[u8]) -> usize
+        // Guarantee.
         ensures count { result ≡ min (length bytes.now) (finite_room self.old.sender) }
         ensures state { self.new ≡ record self.old {
           sender = sender_after_command self.old.sender (Writes bytes.now);
@@ -362,7 +359,7 @@ impl<S: Storage<u8>, R: Storage<Run>> SendBufferOver<S, R> {
     /// # let mut buffer = SendBuffer::new_at(vec![0; 64], vec![Run::EMPTY; 4], vec![Run::EMPTY; 4], 0);
     /// assert_eq!(buffer.write(b"abc"), 3);
     /// buffer.close();
-    /// // The end has a number too, and nothing is written after it.
+    /// // The FIN has a position too, and nothing is written after it.
     /// assert_eq!((buffer.numbers_end(), buffer.write(b"d")), (4, 0));
     /// // It is sent without bytes, if they were sent before.
     /// assert!(buffer.mark(0..3));
@@ -378,8 +375,8 @@ impl<S: Storage<u8>, R: Storage<Run>> SendBufferOver<S, R> {
         self.ranges.close();
     }
 
-    /// Lends the bytes of a range, in two parts, and returns whether the stream ends after them. If the range begins
-    /// below `numbers().first_unacknowledged`, it lends none. Bytes that are acknowledged beyond that are lent too.
+    /// Lends the bytes of a range, in two parts, and returns whether the stream ends after them. It lends none if the
+    /// range begins below `numbers().first_unacknowledged`. Bytes acknowledged out of order are lent too.
     ///
     /// ```
     /// # use net_base::finite::SendBuffer;
@@ -388,7 +385,7 @@ impl<S: Storage<u8>, R: Storage<Run>> SendBufferOver<S, R> {
     /// assert_eq!(buffer.write(b"abcdef"), 6);
     /// buffer.close();
     /// assert_eq!((buffer.bytes(2..5).front, buffer.bytes(2..5).fin), (&b"cde"[..], false));
-    /// // The end has the number 6.
+    /// // The FIN's position is 6.
     /// assert_eq!((buffer.bytes(2..7).front, buffer.bytes(2..7).fin), (&b"cdef"[..], true));
     /// ```
     #[must_use]
@@ -399,8 +396,8 @@ impl<S: Storage<u8>, R: Storage<Run>> SendBufferOver<S, R> {
         self.sender.segment_bytes(range)
     }
 
-    /// Returns how many numbers are in flight: marked, not lost since, and not acknowledged. It passes what is in
-    /// flight once, and searches at each run.
+    /// Returns how many positions are in flight: marked, not lost since, and not acknowledged. It goes once over the
+    /// ranges in flight, and searches at each.
     ///
     /// ```
     /// # use net_base::finite::SendBuffer;
@@ -418,7 +415,7 @@ impl<S: Storage<u8>, R: Storage<Run>> SendBufferOver<S, R> {
         self.ranges.in_flight()
     }
 
-    /// Returns whether a number is acknowledged.
+    /// Returns whether a position is acknowledged.
     ///
     /// ```
     /// # use net_base::finite::SendBuffer;
@@ -434,7 +431,7 @@ impl<S: Storage<u8>, R: Storage<Run>> SendBufferOver<S, R> {
         self.ranges.is_acknowledged(pos)
     }
 
-    /// Returns whether a number is neither acknowledged nor in flight: it is lost, or was never sent.
+    /// Returns whether a position is neither acknowledged nor in flight: it is lost, or was never sent.
     ///
     /// ```
     /// # use net_base::finite::SendBuffer;
@@ -452,8 +449,8 @@ impl<S: Storage<u8>, R: Storage<Run>> SendBufferOver<S, R> {
     }
 
     /// Returns the range to send next, as `SendRangesOver::next` does: what is lost, else what was never sent. All its
-    /// bytes are below `limit`, such as QUIC's MAX_STREAM_DATA, and there are at most `size` (at most one, if that is
-    /// 0). `None` exactly if there is none.
+    /// bytes are below `limit`, such as QUIC's MAX_STREAM_DATA, and there are at most `size` of them (one, if that is
+    /// 0). `None` if nothing below the limit is lost or unsent.
     ///
     /// ```
     /// # use net_base::finite::SendBuffer;
@@ -477,13 +474,13 @@ impl<S: Storage<u8>, R: Storage<Run>> SendBufferOver<S, R> {
         self.ranges.next(limit, size)
     }
 
-    /// Marks a range as sent: it is in flight, and not lost any more. Returns true, or false if the range is empty, or
-    /// ends above `numbers_end` and so was never written: then nothing changes.
+    /// Marks a range as sent: it is in flight, and no longer lost. Returns false, and changes nothing, if the range is
+    /// empty or ends above `numbers_end`.
     ///
-    /// Pass what `next` returned, or a part of that from its start on, or what was sent before, as a probe. All below
-    /// the range's end counts as sent then, and what of it was never marked counts as lost. A range beyond the first
-    /// that is open isn't noted if that would make more than `most_runs` runs: what of it was open stays so, and is
-    /// sent again.
+    /// Pass what `next` returned, or the first part of it: for that there is always room. What was sent before may be
+    /// marked again, as for a probe. A range above a gap that was never
+    /// marked declares the gap lost. If there is no room for another range, what was lost or unsent stays so, and is sent again. The call
+    /// doesn't report that: make room as [`SendRangesOver`] says, or grow when `acknowledge` sets `sent_again`.
     ///
     /// ```
     /// # use net_base::finite::SendBuffer;
@@ -499,6 +496,7 @@ impl<S: Storage<u8>, R: Storage<Run>> SendBufferOver<S, R> {
     pub fn mark(&mut self, range: Range<u64>) -> bool
         ensures accepted { result ≡ (nat_lt range.start range.end
             && nat_le range.end (end_number self.old.ranges)) }
+        // Guarantee.
         ensures refused { IsFalse result → self.new ≡ self.old }
         ensures numbers { IsTrue result → self.new.ranges ≡ record self.old.ranges {
           sent = max self.old.ranges.sent range.end;
@@ -526,12 +524,12 @@ impl<S: Storage<u8>, R: Storage<Run>> SendBufferOver<S, R> {
         true
     }
 
-    /// Marks a range as acknowledged, when the packet that had it is. Whether it was in flight or lost, none of it is
-    /// sent again. Room for its bytes is free once all before them are acknowledged.
+    /// Marks a range as acknowledged, when its packet is. Whether it was in flight or lost, none of it is sent again.
+    /// The room of its bytes is free once all before them are acknowledged.
     ///
-    /// A range that begins beyond the first number that isn't acknowledged isn't remembered if that would make more
-    /// than `most_runs` runs, or if it ends 2^32 or more above that number: then it is lost, and `sent_again` is set.
-    /// An old acknowledgement, whose numbers all were acknowledged, has nothing that is new, and is no error.
+    /// A range that begins above the first unacknowledged position isn't remembered if that would make more than
+    /// `most_runs` ranges: it is lost then, and `sent_again` is set. The same is true of a range that ends
+    /// 2^32 positions or more above that first one, where growing doesn't help. An old acknowledgement is no error: `new` is 0.
     ///
     /// ```
     /// # use net_base::finite::{NotSent, SendBuffer};
@@ -547,9 +545,10 @@ impl<S: Storage<u8>, R: Storage<Run>> SendBufferOver<S, R> {
     ///
     /// # Errors
     ///
-    /// `NotSent` if the range ends above what was sent: then nothing changes.
+    /// `NotSent`, and nothing changes, if the range ends above what was sent.
     pub fn acknowledge(&mut self, range: Range<u64>) -> Result<Acknowledged, NotSent>
         ensures refused { IsErr result ↔ (self.old.ranges.sent < range.end) }
+        // Guarantee.
         ensures unchanged { IsErr result → self.new ≡ self.old }
         ensures none { range.end ≤ range.start → self.new ≡ self.old }
         ensures again { IfOk result (λ it. IsTrue it.sent_again ↔ ((range.start < range.end)
@@ -587,12 +586,13 @@ impl<S: Storage<u8>, R: Storage<Run>> SendBufferOver<S, R> {
         }
     }
 
-    /// Marks a range as lost, when loss detection says so of its packet (RFC 9002, section 6): what of it isn't
-    /// acknowledged is sent again. Any number of ranges may be lost at a time, in any order. Returns true, or false if
-    /// the range ends above what was sent: then nothing changes.
+    /// Marks a range as lost, when loss detection says so of its packet (RFC 9002, section 6): what isn't acknowledged
+    /// of it is sent again. Ranges may be lost in any order. Returns false, and changes nothing, if the range ends
+    /// above what was sent.
     ///
-    /// A loss in the middle of a run that is in flight leaves two runs. If there is no room for one more, the shorter
-    /// of these is lost too.
+    /// A loss in the middle of a range in flight leaves two ranges. If there is no room for one more, the shorter of
+    /// the two is lost too. The call doesn't report that: make room as [`SendRangesOver`] says, or grow when
+    /// `acknowledge` sets `sent_again`.
     ///
     /// ```
     /// # use net_base::finite::SendBuffer;
@@ -607,6 +607,7 @@ impl<S: Storage<u8>, R: Storage<Run>> SendBufferOver<S, R> {
     #[must_use]
     pub fn lose(&mut self, range: Range<u64>) -> bool
         ensures accepted { result ≡ nat_le range.end self.old.ranges.sent }
+        // Guarantee.
         ensures refused { IsFalse result → self.new ≡ self.old }
         ensures sender { self.new.sender ≡ self.old.sender }
         ensures none { range.end ≤ range.start → self.new ≡ self.old }

@@ -1,5 +1,5 @@
-//! Which numbers of a stream that ends are acknowledged, in flight and lost, where each range that was sent is answered
-//! for by itself, as in QUIC.
+//! Which positions of a stream that ends are acknowledged, in flight and lost, where each range that was sent is
+//! answered for by itself, as in QUIC.
 //!
 //! ```text
 //!   acknowledged  |  acknowledged, in flight or lost  |  written, never sent
@@ -38,12 +38,12 @@ use thiserror::Error;
 /// use net_base::finite::{Acknowledged, NotSent, SendRanges};
 /// use net_base::storage::Run;
 ///
-/// // One range can be remembered beyond the first number that isn't acknowledged.
+/// // One range can be remembered above the first position that isn't acknowledged.
 /// let mut ranges = SendRanges::new_at(vec![Run::EMPTY; 1], vec![Run::EMPTY; 1], 0);
 /// assert!(ranges.write(40) == 40 && ranges.mark(0..40));
 /// let said = ranges.acknowledge(10..20);
 /// assert_eq!(said, Ok(Acknowledged { new: 10, freed: 0, sent_again: false }));
-/// // Of these five were known.
+/// // Five of these ten were known.
 /// assert_eq!(ranges.acknowledge(15..25).map(|it| it.new), Ok(5));
 /// let said = ranges.acknowledge(30..40);
 /// assert_eq!(said, Ok(Acknowledged { new: 0, freed: 0, sent_again: true }));
@@ -53,19 +53,20 @@ use thiserror::Error;
 /// ```
 #[derive(Copy, Clone, Debug, PartialEq, Eq)]
 pub struct Acknowledged {
-    /// How many numbers of the range weren't acknowledged before. It is 0 if the acknowledgement is an old one, or if
-    /// the range is sent again.
+    /// How many positions of the range weren't acknowledged before, the FIN's included. It is 0 if the acknowledgement
+    /// is an old one, or if the range is sent again.
     pub new: u64,
-    /// By how much the first number that isn't acknowledged rose: so many bytes have room. The end's number, which may
-    /// be among them, takes none.
+    /// By how many positions `numbers().first_unacknowledged` rose. The bytes there needn't be kept any longer. The
+    /// FIN's position, which may be among them, has no byte.
     pub freed: u64,
-    /// There would be more runs than have room, so the range isn't remembered: it is lost, and sent again. `next`
-    /// returns it, as what `lose` was told, so a stream that waited for nothing but acknowledgements has something to
-    /// send. It is acknowledged once more then.
+    /// True if there was no room to remember the range. It counts as lost then: `next` returns it again, even if the
+    /// stream waited only for acknowledgements. A caller whose storages can grow may call `grow_runs`, and
+    /// `acknowledge` again. That doesn't help if the range ends 2^32 positions or more above the first unacknowledged
+    /// one.
     pub sent_again: bool,
 }
 
-/// The acknowledged range ends above what was sent: its packet was never sent, or another range was marked for it.
+/// The acknowledged range ends above what was sent: no such packet was sent, or `mark` had another range for it.
 /// Nothing changes.
 ///
 /// ```
@@ -76,28 +77,27 @@ pub struct Acknowledged {
 /// assert_eq!(ranges.acknowledge(0..1), Err(NotSent));
 /// ```
 #[derive(Copy, Clone, Debug, PartialEq, Eq, Hash, Drop, Error)]
-#[error("the range ends above what was sent")]
+#[error("the range ends above what was sent: pass a range that was marked")]
 pub struct NotSent;
 
 /// A [`SendRanges`] over any storages.
 ///
-/// It knows the numbers of a stream's bytes and of its end, and keeps no byte: the program does, by position. Of the
-/// numbers that were sent it knows which are acknowledged, in flight and lost, as its caller says: `mark`,
-/// `acknowledge` and `lose` take ranges in any order. It finds no loss itself, and has no clock, no window and no size
-/// of a packet: these are its connection's. `next` returns what is lost, and then what was never sent. (Not in
-/// smoltcp.)
+/// It knows which positions of a stream are acknowledged, in flight and lost; the program keeps the bytes. A position
+/// is the number of a byte in its stream, 64 bits. The FIN of a closed stream has the position after the last byte's.
+/// `mark`, `acknowledge` and `lose` take ranges of positions in any order. Loss detection, timers, windows and packet
+/// sizes are the connection's. `next` returns what is lost, and then what was never sent. (Not in smoltcp.)
 ///
-/// No number is forgotten, however few runs have room. Each of both storages remembers at most `most_runs` runs: one
-/// those that are acknowledged beyond the first number that isn't, the other those that are in flight beyond the first
-/// number that was lost. Where there would be more, some numbers are sent twice, but none is left out. So if each range
-/// that was marked is at last acknowledged or lost, all that was written is acknowledged in the end.
+/// There are two storages of ranges (*runs*, in names), with room for `most_runs` each. `acknowledged` stores ranges
+/// that were acknowledged out of order, `sent` those in flight above the first lost byte. Where one has no room, some
+/// positions are sent twice, but none is forgotten. So if each marked range is acknowledged or lost at last, all that
+/// was written is acknowledged in the end.
 ///
-/// Half as many runs as there are packets in flight are always enough, and mostly a quarter is. With 128 packets in
-/// flight and one in ten lost, 32 repeat nothing, 16 make a few percent more packets, and 8 about twice as many. With
-/// no run at all, a loss loses all that was sent from there on, and what is acknowledged out of order is sent again.
+/// Room for half as many ranges as packets sent from the first unacknowledged byte on is always enough, and mostly less
+/// is. With less, some bytes are sent twice. With none, a loss loses all that was sent from there on, and what is
+/// acknowledged out of order is sent again. `acknowledge` sets `sent_again` where it has no room: a caller whose
+/// storages can grow calls `grow_runs` then.
 ///
-/// Positions are absolute, and the end has the number after the last byte's, as a `FiniteSender` counts them. No call
-/// allocates.
+/// No call allocates.
 pub struct SendRangesOver<R: Storage<Run>> {
     acknowledged: Board<R>,
     settled: Board<R>,
@@ -106,8 +106,8 @@ pub struct SendRangesOver<R: Storage<Run>> {
     closed: bool,
 }
 
-/// What the sending side of a QUIC stream knows of its numbers, where the program keeps the bytes. Its runs are lent or
-/// owned, and its calls are those of [`SendRangesOver`].
+/// Which bytes of a QUIC stream are acknowledged, in flight and lost, for a program that keeps the bytes itself. Its
+/// storages are lent or owned, and its calls are those of [`SendRangesOver`].
 ///
 /// ```
 /// use net_base::finite::SendRanges;
@@ -126,7 +126,7 @@ pub struct SendRangesOver<R: Storage<Run>> {
 ///     assert!(ranges.mark(range));
 /// }
 /// assert_eq!(frames[0], (0, &b"nineteen"[..], false));
-/// assert_eq!(frames[2], (16, &b"ere"[..], true)); // range 16..20: the end has the number 19
+/// assert_eq!(frames[2], (16, &b"ere"[..], true)); // range 16..20: the FIN's position is 19
 /// // The packet of the first frame is lost, and those of the others are acknowledged.
 /// assert!(ranges.lose(0..8));
 /// assert_eq!(ranges.acknowledge(8..20).map(|it| it.new), Ok(12));
@@ -169,8 +169,9 @@ impl<R: Storage<Run> + Drop> Drop for SendRangesOver<R> {
 }
 
 impl<R: Storage<Run>> SendRangesOver<R> {
-    /// Returns what is known of a stream that begins at position `first`, to which nothing was written. `acknowledged`
-    /// has room for the ranges that are acknowledged out of order, and `settled` for those in flight beyond a lost one.
+    /// Returns the ranges of a stream that begins at position `first`, to which nothing was written. `acknowledged`
+    /// stores ranges that were acknowledged out of order, `sent` those in flight above the first lost byte, so it
+    /// is empty until something is lost. Both have room for the same number of ranges.
     ///
     /// ```
     /// # use net_base::finite::SendRangesOver;
@@ -181,30 +182,26 @@ impl<R: Storage<Run>> SendRangesOver<R> {
     ///
     /// # Requires
     ///
-    /// Both storages have as many runs, which may be none. `first` is below `u64::MAX`: an end there would have no
-    /// number after it.
+    /// Both storages have the same length, which may be 0, and `first` is below `u64::MAX`: no stream can end there.
     #[must_use]
     #[track_caller]
-    pub fn over_at(acknowledged: R, settled: R, first: u64) -> Self
-        requires runs { length (R.elements settled) ≡ length (R.elements acknowledged) }
+    pub fn over_at(acknowledged: R, sent: R, first: u64) -> Self
+        requires runs { length (R.elements sent) ≡ length (R.elements acknowledged) }
         requires end { first < no_end }
         ensures { result ≡ new_ranges (length (R.elements acknowledged)) first }
     {
-        prove!(
-            settled.count() == acknowledged.count(),
-            "two numbers of runs"
-        );
+        prove!(sent.count() == acknowledged.count(), "two numbers of runs");
         prove!(first < u64::MAX, "no number is left for an end");
         SendRangesOver {
             acknowledged: Board::over_at(acknowledged, first),
-            settled: Board::over_at(settled, first),
+            settled: Board::over_at(sent, first),
             written: first,
             sent: first,
             closed: false,
         }
     }
 
-    /// Returns both storages. What is in them can be any.
+    /// Returns both storages, `acknowledged` and then `sent`. Their contents are unspecified.
     ///
     /// ```
     /// # use net_base::finite::SendRangesOver;
@@ -215,7 +212,7 @@ impl<R: Storage<Run>> SendRangesOver<R> {
     #[must_use]
     pub fn into_storages(self) -> (R, R)
         ensures acknowledged { length (R.elements result.0) ≡ self.most_runs }
-        ensures settled { length (R.elements result.1) ≡ self.most_runs }
+        ensures sent { length (R.elements result.1) ≡ self.most_runs }
     {
         let SendRangesOver {
             acknowledged,
@@ -240,7 +237,7 @@ impl<R: Storage<Run>> SendRangesOver<R> {
     ///
     /// # Requires
     ///
-    /// `first` is below `u64::MAX`: an end there would have no number after it.
+    /// `first` is below `u64::MAX`: no stream can end there.
     #[track_caller]
     pub fn reset_at(&mut self, first: u64)
         requires { first < no_end }
@@ -254,15 +251,15 @@ impl<R: Storage<Run>> SendRangesOver<R> {
         self.closed = false;
     }
 
-    /// Moves the runs to larger storages, and returns those from before, whose runs can be any. What is acknowledged,
-    /// in flight and lost stays so.
+    /// Moves the ranges to larger storages, and returns the old ones, whose contents are unspecified. What is
+    /// acknowledged, in flight and lost stays so.
     ///
     /// ```
     /// # use net_base::finite::SendRanges;
     /// # use net_base::storage::Run;
     /// let mut ranges = SendRanges::new_at(vec![], vec![], 0);
     /// assert!(ranges.write(40) == 40 && ranges.mark(0..40));
-    /// // There is no room for a run, so what is acknowledged out of order is sent again.
+    /// // There is no room for a range, so what is acknowledged out of order is sent again.
     /// assert!(ranges.acknowledge(8..16).is_ok_and(|it| it.sent_again) && ranges.mark(8..40));
     /// ranges.grow_runs(vec![Run::EMPTY; 4].into(), vec![Run::EMPTY; 4].into());
     /// assert_eq!(ranges.acknowledge(8..16).map(|it| it.new), Ok(8));
@@ -270,28 +267,25 @@ impl<R: Storage<Run>> SendRangesOver<R> {
     ///
     /// # Requires
     ///
-    /// Both have as many runs, and at least `most_runs`.
+    /// Both storages have the same length, which is at least `most_runs`.
     #[track_caller]
-    pub fn grow_runs(&mut self, acknowledged: R, settled: R) -> (R, R)
-        requires runs { length (R.elements settled) ≡ length (R.elements acknowledged) }
+    pub fn grow_runs(&mut self, acknowledged: R, sent: R) -> (R, R)
+        requires runs { length (R.elements sent) ≡ length (R.elements acknowledged) }
         requires more { self.old.most_runs ≤ length (R.elements acknowledged) }
         ensures state { self.new
             ≡ record self.old { most_runs = length (R.elements acknowledged) } }
         ensures acknowledged { length (R.elements result.0) ≡ self.old.most_runs }
-        ensures settled { length (R.elements result.1) ≡ self.old.most_runs }
+        ensures sent { length (R.elements result.1) ≡ self.old.most_runs }
     {
-        prove!(
-            settled.count() == acknowledged.count(),
-            "two numbers of runs"
-        );
+        prove!(sent.count() == acknowledged.count(), "two numbers of runs");
         prove!(acknowledged.count() >= self.most_runs(), "fewer runs");
         (
             self.acknowledged.grow(acknowledged),
-            self.settled.grow(settled),
+            self.settled.grow(sent),
         )
     }
 
-    /// Returns how many runs each storage has.
+    /// Returns how many ranges each storage has room for.
     ///
     /// ```
     /// # use net_base::finite::SendRanges;
@@ -306,7 +300,7 @@ impl<R: Storage<Run>> SendRangesOver<R> {
         self.acknowledged.most_runs()
     }
 
-    /// Returns whether all that was written is acknowledged, and the end.
+    /// Returns whether the stream is closed, and all its bytes and the FIN are acknowledged.
     ///
     /// ```
     /// # use net_base::finite::SendRanges;
@@ -325,7 +319,7 @@ impl<R: Storage<Run>> SendRangesOver<R> {
         self.closed && self.acknowledged.first_unreported() > self.written
     }
 
-    /// Returns whether the stream ends after what was written.
+    /// Returns whether the stream is closed: it ends after what was written.
     #[must_use]
     pub fn is_closed(&self) -> bool
         ensures { result ≡ self.now.closed }
@@ -333,8 +327,8 @@ impl<R: Storage<Run>> SendRangesOver<R> {
         self.closed
     }
 
-    /// Returns the first number that isn't acknowledged, and the one after the last that was sent. A range that starts
-    /// below the latter is sent again.
+    /// Returns the first position that isn't acknowledged, and the one after the last that was sent. A range from
+    /// `next` that starts below the latter is sent again.
     ///
     /// ```
     /// # use net_base::finite::SendRanges;
@@ -357,8 +351,8 @@ impl<R: Storage<Run>> SendRangesOver<R> {
         }
     }
 
-    /// Returns how many numbers are in flight: marked, not lost since, and not acknowledged. It passes what is in
-    /// flight once, and searches at each run.
+    /// Returns how many positions are in flight: marked, not lost since, and not acknowledged. It goes once over the
+    /// ranges in flight, and searches at each.
     ///
     /// ```
     /// # use net_base::finite::SendRanges;
@@ -388,7 +382,7 @@ impl<R: Storage<Run>> SendRangesOver<R> {
         count
     }
 
-    /// Returns the number after the last byte's, and after the end's once the stream is closed.
+    /// Returns the position after the last byte, or after the FIN once the stream is closed.
     #[must_use]
     pub fn numbers_end(&self) -> u64
         ensures { result ≡ end_number self.now }
@@ -396,15 +390,52 @@ impl<R: Storage<Run>> SendRangesOver<R> {
         self.written + u64::from(self.closed)
     }
 
-    /// Notes that so many bytes are written, and returns how many have numbers: all, as far as numbers of 64 bits go,
-    /// and none of a closed stream.
+    /// Returns whether a range has the FIN, as a frame with the FIN bit does: the stream is closed, and the range ends
+    /// above the FIN's position. Then all its other positions have bytes.
+    ///
+    /// ```
+    /// # use net_base::finite::SendRanges;
+    /// # use net_base::storage::Run;
+    /// # let mut ranges = SendRanges::new_at(vec![Run::EMPTY; 4], vec![Run::EMPTY; 4], 0);
+    /// assert_eq!(ranges.write(12), 12);
+    /// ranges.close();
+    /// assert!(!ranges.has_fin(&(0..8)) && !ranges.has_fin(&(8..12)) && ranges.has_fin(&(8..13)));
+    /// ```
+    #[must_use]
+    pub fn has_fin(&self, range: &Range<u64>) -> bool
+        ensures { result ≡ (self.now.closed && nat_lt self.now.written range.now.end) }
+    {
+        self.closed && self.written < range.end
+    }
+
+    /// Returns the position after the last byte that was sent: the final size of a stream that is reset now.
+    ///
+    /// ```
+    /// # use net_base::finite::SendRanges;
+    /// # use net_base::storage::Run;
+    /// # let mut ranges = SendRanges::new_at(vec![Run::EMPTY; 4], vec![Run::EMPTY; 4], 0);
+    /// assert!(ranges.write(12) == 12 && ranges.mark(0..8));
+    /// assert_eq!(ranges.final_size(), 8);
+    /// ranges.close();
+    /// assert!(ranges.mark(8..13));
+    /// assert_eq!(ranges.final_size(), 12); // the FIN is no byte
+    /// ```
+    #[must_use]
+    pub fn final_size(&self) -> u64
+        ensures { result ≡ min self.now.sent self.now.written }
+    {
+        self.sent.min(self.written)
+    }
+
+    /// Notes that `count` bytes were written, and returns how many have positions: all that fit 64 bits, and none once
+    /// the stream is closed.
     ///
     /// ```
     /// # use net_base::finite::SendRanges;
     /// # use net_base::storage::Run;
     /// # let mut ranges = SendRanges::new_at(vec![Run::EMPTY; 4], vec![Run::EMPTY; 4], 0);
     /// assert_eq!((ranges.write(60), ranges.write(4), ranges.numbers_end()), (60, 4, 64));
-    /// assert_eq!(ranges.write(u64::MAX), u64::MAX - 65); // the end has a number too
+    /// assert_eq!(ranges.write(u64::MAX), u64::MAX - 65); // the FIN has a position too
     /// ```
     #[must_use]
     pub fn write(&mut self, count: u64) -> u64
@@ -429,7 +460,7 @@ impl<R: Storage<Run>> SendRangesOver<R> {
     /// # let mut ranges = SendRanges::new_at(vec![Run::EMPTY; 4], vec![Run::EMPTY; 4], 0);
     /// assert_eq!(ranges.write(3), 3);
     /// ranges.close();
-    /// // The end has a number too, and nothing is written after it.
+    /// // The FIN has a position too, and nothing is written after it.
     /// assert_eq!((ranges.numbers_end(), ranges.write(1)), (4, 0));
     /// // It is sent without bytes, if they were sent before.
     /// assert!(ranges.mark(0..3));
@@ -442,7 +473,7 @@ impl<R: Storage<Run>> SendRangesOver<R> {
         self.closed = true;
     }
 
-    /// Returns whether a number is acknowledged.
+    /// Returns whether a position is acknowledged.
     ///
     /// ```
     /// # use net_base::finite::SendRanges;
@@ -458,7 +489,7 @@ impl<R: Storage<Run>> SendRangesOver<R> {
         self.acknowledged.contains(pos)
     }
 
-    /// Returns whether a number is neither acknowledged nor in flight: it is lost, or was never sent.
+    /// Returns whether a position is neither acknowledged nor in flight: it is lost, or was never sent.
     ///
     /// ```
     /// # use net_base::finite::SendRanges;
@@ -496,12 +527,12 @@ impl<R: Storage<Run>> SendRangesOver<R> {
     }
 
     /// Returns the range to send next: what is lost, else what was never sent. All its bytes are below `limit`, such as
-    /// QUIC's MAX_STREAM_DATA, and there are at most `size` (at most one, if that is 0). `None` exactly if there is
-    /// none.
+    /// QUIC's MAX_STREAM_DATA, and there are at most `size` of them (one, if that is 0). `None` if nothing below the
+    /// limit is lost or unsent.
     ///
-    /// The end of a closed stream is no data: it comes with the last bytes, or alone if these were sent before, and
-    /// needs no room and no number below the limit. No range has both what is lost and what was never sent. As long as
-    /// what it returns is marked, and nothing is lost, it returns `None` in the end.
+    /// The FIN of a closed stream comes with the last bytes, or alone if these were sent before. It counts neither
+    /// towards `size` nor towards `limit`. A range is lost as a whole, or new as a whole. A loop that marks what `next`
+    /// returns ends.
     ///
     /// ```
     /// # use net_base::finite::SendRanges;
@@ -555,13 +586,13 @@ impl<R: Storage<Run>> SendRangesOver<R> {
         hole_end(&self.settled, from, known)
     }
 
-    /// Marks a range as sent: it is in flight, and not lost any more. Returns true, or false if the range is empty, or
-    /// ends above `numbers_end` and so was never written: then nothing changes.
+    /// Marks a range as sent: it is in flight, and no longer lost. Returns false, and changes nothing, if the range is
+    /// empty or ends above `numbers_end`.
     ///
-    /// Pass what `next` returned, or a part of that from its start on, or what was sent before, as a probe. All below
-    /// the range's end counts as sent then, and what of it was never marked counts as lost. A range beyond the first
-    /// that is open isn't noted if that would make more than `most_runs` runs: what of it was open stays so, and is
-    /// sent again.
+    /// Pass what `next` returned, or the first part of it: for that there is always room. What was sent before may be
+    /// marked again, as for a probe. A range above a gap that was never
+    /// marked declares the gap lost. If there is no room for another range, what was lost or unsent stays so, and is sent again. The call
+    /// doesn't report that: make room as [`SendRangesOver`] says, or grow when `acknowledge` sets `sent_again`.
     ///
     /// ```
     /// # use net_base::finite::SendRanges;
@@ -577,6 +608,7 @@ impl<R: Storage<Run>> SendRangesOver<R> {
     pub fn mark(&mut self, range: Range<u64>) -> bool
         ensures accepted { result ≡ (nat_lt range.start range.end
             && nat_le range.end (end_number self.old)) }
+        // Guarantee.
         ensures refused { IsFalse result → self.new ≡ self.old }
         ensures numbers { IsTrue result → self.new ≡ record self.old {
           sent = max self.old.sent range.end;
@@ -584,6 +616,7 @@ impl<R: Storage<Run>> SendRangesOver<R> {
         } }
         ensures others { (p : ℕ) → IsFalse (is_within range.start range.end p) →
             is_open self.new p ≡ is_open self.old p }
+        // Guarantee.
         ensures sent { (p : ℕ) → IsTrue (is_open self.new p) → IsTrue (is_open self.old p) }
         ensures first { IsTrue result → NoneIsOpenBelow self.old range.start →
             NoneIsOpen self.new range.start range.end }
@@ -609,12 +642,11 @@ impl<R: Storage<Run>> SendRangesOver<R> {
         true
     }
 
-    /// Marks a range as acknowledged, when the packet that had it is. Whether it was in flight or lost, none of it is
-    /// sent again.
+    /// Marks a range as acknowledged, when its packet is. Whether it was in flight or lost, none of it is sent again.
     ///
-    /// A range that begins beyond the first number that isn't acknowledged isn't remembered if that would make more
-    /// than `most_runs` runs, or if it ends 2^32 or more above that number: then it is lost, and `sent_again` is set.
-    /// An old acknowledgement, whose numbers all were acknowledged, has nothing that is new, and is no error.
+    /// A range that begins above the first unacknowledged position isn't remembered if that would make more than
+    /// `most_runs` ranges: it is lost then, and `sent_again` is set. The same is true of a range that ends
+    /// 2^32 positions or more above that first one, where growing doesn't help. An old acknowledgement is no error: `new` is 0.
     ///
     /// ```
     /// # use net_base::finite::{NotSent, SendRanges};
@@ -630,10 +662,12 @@ impl<R: Storage<Run>> SendRangesOver<R> {
     ///
     /// # Errors
     ///
-    /// `NotSent` if the range ends above what was sent: then nothing changes.
+    /// `NotSent`, and nothing changes, if the range ends above what was sent.
     #[tactic(auto, using(crate::proofs::SendRanges::loses))]
     pub fn acknowledge(&mut self, range: Range<u64>) -> Result<Acknowledged, NotSent>
+        // Guarantee.
         ensures refused { IsErr result ↔ (self.old.sent < range.end) }
+        // Guarantee.
         ensures unchanged { IsErr result → self.new ≡ self.old }
         ensures none { range.end ≤ range.start → self.new ≡ self.old }
         ensures again { IfOk result (λ it. IsTrue it.sent_again ↔ ((range.start < range.end)
@@ -685,12 +719,13 @@ impl<R: Storage<Run>> SendRangesOver<R> {
         })
     }
 
-    /// Marks a range as lost, when loss detection says so of its packet (RFC 9002, section 6): what of it isn't
-    /// acknowledged is sent again. Any number of ranges may be lost at a time, in any order. Returns true, or false if
-    /// the range ends above what was sent: then nothing changes.
+    /// Marks a range as lost, when loss detection says so of its packet (RFC 9002, section 6): what isn't acknowledged
+    /// of it is sent again. Ranges may be lost in any order. Returns false, and changes nothing, if the range ends
+    /// above what was sent.
     ///
-    /// A loss in the middle of a run that is in flight leaves two runs. If there is no room for one more, the shorter
-    /// of these is lost too.
+    /// A loss in the middle of a range in flight leaves two ranges. If there is no room for one more, the shorter of
+    /// the two is lost too. The call doesn't report that: make room as [`SendRangesOver`] says, or grow when
+    /// `acknowledge` sets `sent_again`.
     ///
     /// ```
     /// # use net_base::finite::SendRanges;
@@ -706,6 +741,7 @@ impl<R: Storage<Run>> SendRangesOver<R> {
     #[tactic(auto, using(crate::proofs::SendRanges::loses))]
     pub fn lose(&mut self, range: Range<u64>) -> bool
         ensures accepted { result ≡ nat_le range.end self.old.sent }
+        // Guarantee.
         ensures refused { IsFalse result → self.new ≡ self.old }
         ensures none { range.end ≤ range.start → self.new ≡ self.old }
         ensures lost { IsTrue result → Loses self.old range.start range.end self.new }

@@ -1,8 +1,8 @@
-//! The numbers of a sender.
+//! What a sender has sent.
 ghost use Rattle.std.specs.Prelude.{◌≡◌, ◌-◌};
 
-/// What a sender sent of its stream, and what was acknowledged: the numbers that RFC 9293 calls SND.UNA and
-/// SND.NXT, as positions.
+/// How far a stream was acknowledged, and how far it was sent, as positions: RFC 9293's SND.UNA and SND.NXT. The FIN
+/// has the position after the last byte's.
 ///
 /// ```
 /// use net_base::finite::FiniteSender;
@@ -16,15 +16,15 @@ ghost use Rattle.std.specs.Prelude.{◌≡◌, ◌-◌};
 /// ```
 #[derive(Copy, Clone, Debug, PartialEq, Eq, Hash)]
 pub struct SentNumbers {
-    /// The first number that isn't acknowledged.
+    /// The first position that isn't acknowledged.
     pub first_unacknowledged: u64,
-    /// The number after the last one that was sent.
+    /// The position after the last one that was sent.
     pub sent: u64,
 }
 
 impl SentNumbers {
-    /// Returns how many numbers were sent and aren't acknowledged (RFC 5681's flight size): 0 if `sent` is below
-    /// `first_unacknowledged`.
+    /// Returns RFC 5681's flight size, `sent` minus `first_unacknowledged`. It counts what was lost or acknowledged in
+    /// between. It is 0 if `sent` is below `first_unacknowledged`.
     #[must_use]
     pub const fn flight_size(self) -> u64
         ensures { result ≡ self.sent - self.first_unacknowledged }

@@ -26,9 +26,13 @@ use std::ops::Range;
 
 /// [`StreamRanges`] over any storage.
 ///
-/// It is a `StreamReceiver` without bytes, for a program that keeps them itself: QUIC's frames share the memory of
-/// their datagram. The program stores the bytes of each part that `keep` returns at the part's positions. Those below
-/// `next` can then be read, and each position comes in one part alone. No call allocates. smoltcp has no such type.
+/// It tells which bytes of a stream have arrived, for a program that keeps them itself, as where QUIC's frames share
+/// the memory of their datagram. A position is the number of a byte in its stream, 64 bits. Store the bytes of each
+/// part that `keep` returns. Those below `next`, the first missing position, can be read. Above it are the waiting
+/// ranges (*runs*, or *held*, in names); what is missing before one is a hole. No call allocates. (Not in smoltcp.)
+///
+/// It differs from a `StreamReceiver` in two ways. Bytes that arrive again never replace waiting ones, since each
+/// position comes in one part alone. And a FIN that contradicts what has arrived is refused, even one in order.
 pub struct StreamRangesOver<R: Storage<Run>> {
     // Invariant: head and runs are sound for the capacity. Of the head's ring only the length is used.
     head: FiniteReceiverHead,
@@ -36,8 +40,8 @@ pub struct StreamRangesOver<R: Storage<Run>> {
     runs: R,
 }
 
-/// The ranges of a stream that have arrived, with runs that are lent or owned. Its calls are those of
-/// [`StreamRangesOver`].
+/// Which bytes of a stream have arrived, for a program that keeps them itself. Its storage is lent or owned, and its
+/// calls are those of [`StreamRangesOver`].
 ///
 /// ```
 /// use net_base::finite::StreamRanges;
@@ -46,7 +50,7 @@ pub struct StreamRangesOver<R: Storage<Run>> {
 ///
 /// let mut ranges = StreamRanges::new_at(vec![Run::EMPTY; 8], 0, 1000);
 /// let mut chunks = BTreeMap::new();
-/// // A segment of "stream of bytes" comes again, with more.
+/// // Three frames of "stream of bytes". The second one has the first one's bytes too.
 /// for (start, bytes, fin) in [(7, &b"of "[..], false), (5, &b"m of bytes"[..], true), (0, &b"stream"[..], false)] {
 ///     let range = start..start + bytes.len() as u64;
 ///     while let Some(part) = ranges.keep(range.clone(), fin)? {
@@ -87,8 +91,8 @@ impl<R: Storage<Run> + Drop> Drop for StreamRangesOver<R> {
 impl<R: Storage<Run>> StreamRangesOver<R> {
     /// Returns the ranges of a stream that begins at position `first`; nothing has arrived.
     ///
-    /// From the first unread position on, `capacity` positions can arrive: `usize::MAX` if the program has another
-    /// limit. As many runs can be held as `runs` has elements. Without any it takes what comes in order.
+    /// `capacity` bytes can arrive from the first unread one on. Pass `usize::MAX` if you enforce the window yourself.
+    /// `runs` has an element for each waiting range; without any, only what comes in order is taken.
     ///
     /// ```
     /// # use net_base::finite::StreamRangesOver;
@@ -99,7 +103,7 @@ impl<R: Storage<Run>> StreamRangesOver<R> {
     ///
     /// # Requires
     ///
-    /// `first` is below `u64::MAX`: an end there would have no number after it.
+    /// `first` is below `u64::MAX`: no stream can end there.
     #[must_use]
     #[track_caller]
     pub const fn over_at(runs: R, first: u64, capacity: usize) -> Self
@@ -114,7 +118,7 @@ impl<R: Storage<Run>> StreamRangesOver<R> {
         }
     }
 
-    /// Returns the storage. The runs in it can be any.
+    /// Returns the storage. Its contents are unspecified.
     ///
     /// ```
     /// # use net_base::finite::StreamRangesOver;
@@ -146,7 +150,7 @@ impl<R: Storage<Run>> StreamRangesOver<R> {
     ///
     /// # Requires
     ///
-    /// `first` is below `u64::MAX`: an end there would have no number after it.
+    /// `first` is below `u64::MAX`: no stream can end there.
     #[track_caller]
     pub fn reset_at(&mut self, first: u64)
         requires { first < no_end }
@@ -156,7 +160,7 @@ impl<R: Storage<Run>> StreamRangesOver<R> {
         self.head = FiniteReceiverHead::new(first);
     }
 
-    /// Sets the capacity to a larger one: so many positions can arrive, from the first unread one on.
+    /// Sets the capacity to a larger one: so many bytes can arrive, from the first unread one on.
     ///
     /// ```
     /// # use net_base::finite::StreamRanges;
@@ -169,7 +173,7 @@ impl<R: Storage<Run>> StreamRangesOver<R> {
     ///
     /// # Requires
     ///
-    /// It is no smaller than `capacity`.
+    /// `larger` is at least `capacity`.
     #[track_caller]
     pub fn grow(&mut self, larger: usize)
         requires { self.old.capacity ≤ larger }
@@ -179,7 +183,7 @@ impl<R: Storage<Run>> StreamRangesOver<R> {
         self.capacity = larger;
     }
 
-    /// Moves the held runs to a larger storage, and returns the one from before, whose runs can be any.
+    /// Moves the waiting ranges to a larger storage, and returns the old one, whose contents are unspecified.
     ///
     /// ```
     /// # use net_base::finite::{FiniteError, StreamRanges};
@@ -206,13 +210,13 @@ impl<R: Storage<Run>> StreamRangesOver<R> {
         replace(&mut self.runs, more)
     }
 
-    /// Keeps the first part of a segment that is new, and returns it: `None` if no position of the segment is new.
+    /// Keeps the first new part of a segment, and returns it: `None` if none of the segment is new.
     ///
-    /// A position is new if it is in the free window, below the end, and in no part yet. With `fin` the stream ends at
-    /// the range's end. That is taken if it is at most `window_end`.
+    /// A position is new if it is in the free window, below the end, and in no part yet. `fin` says that the stream
+    /// ends at the range's end. An end above `window_end` is left out, and must be sent again.
     ///
-    /// Call it until it returns `None`: held runs can divide the rest of the segment. Only the first call can return an
-    /// error then. A range that is empty or reversed has no position.
+    /// Call it until it returns `None`, since waiting ranges can divide the segment. Only the first of these calls can
+    /// return an error. An empty or reversed range has no position.
     ///
     /// ```
     /// # use net_base::finite::{FiniteError, StreamRanges};
@@ -228,8 +232,8 @@ impl<R: Storage<Run>> StreamRangesOver<R> {
     ///
     /// # Errors
     ///
-    /// `OtherEnd` if the segment says that the stream ends where it can't, as `can_end` tells; else `TooManyHoles` if
-    /// its part would make too many runs. That is never so if the part begins at `next`. Then nothing changes.
+    /// `OtherEnd` if the stream can't end there, as `can_end` tells. Else `TooManyHoles` if the part would make too
+    /// many waiting ranges, which one that begins at `next` never does. Nothing changes then.
     #[inline]
     pub fn keep(&mut self, range: Range<u64>, fin: bool) -> Result<Option<Range<u64>>, FiniteError>
         ensures { KeepsNew self.old range.start range.end fin result self.new }
@@ -239,7 +243,7 @@ impl<R: Storage<Run>> StreamRangesOver<R> {
         keep_part(&mut self.head, runs, self.capacity, range, fin)
     }
 
-    /// Reads the first `count` positions that are queued: their bytes are the program's.
+    /// Counts the first `count` queued bytes as read: the program has taken them.
     ///
     /// ```
     /// # use net_base::finite::StreamRanges;
@@ -252,7 +256,7 @@ impl<R: Storage<Run>> StreamRangesOver<R> {
     ///
     /// # Requires
     ///
-    /// At least `count` positions are queued.
+    /// At least `count` bytes are queued.
     #[inline]
     #[track_caller]
     pub fn read(&mut self, count: usize)
@@ -263,8 +267,8 @@ impl<R: Storage<Run>> StreamRangesOver<R> {
         read_queued(&mut self.head, count);
     }
 
-    /// Returns whether the stream can end at a position: it is the end that is known, or none is, and it isn't below
-    /// `next` or a held run's end. No stream ends at `u64::MAX`.
+    /// Returns whether the stream can end at a position. It can end at the known end alone or, while none is known,
+    /// anywhere not below `next` or a waiting range's end. No stream ends at `u64::MAX`.
     ///
     /// ```
     /// # use net_base::finite::StreamRanges;
@@ -280,7 +284,7 @@ impl<R: Storage<Run>> StreamRangesOver<R> {
         self.head.can_end(every(&self.runs), pos)
     }
 
-    /// Returns the position after the last byte, once it is known.
+    /// Returns the stream's end, QUIC's final size: the position after the last byte. `None` while it isn't known.
     ///
     /// ```
     /// # use net_base::finite::StreamRanges;
@@ -297,7 +301,7 @@ impl<R: Storage<Run>> StreamRangesOver<R> {
         known_end(self.head.after_end)
     }
 
-    /// Returns whether all positions and the end have arrived.
+    /// Returns whether all bytes and the end have arrived.
     ///
     /// ```
     /// # use net_base::finite::StreamRanges;
@@ -314,7 +318,7 @@ impl<R: Storage<Run>> StreamRangesOver<R> {
         self.head.is_complete()
     }
 
-    /// Returns whether all positions were read, up to the end.
+    /// Returns whether all bytes were read, up to the end.
     ///
     /// ```
     /// # use net_base::finite::StreamRanges;
@@ -332,7 +336,7 @@ impl<R: Storage<Run>> StreamRangesOver<R> {
         self.head.has_read_all()
     }
 
-    /// Returns the first missing position. All below it have arrived.
+    /// Returns the first missing position. All bytes below it have arrived.
     ///
     /// ```
     /// # use net_base::finite::StreamRanges;
@@ -348,7 +352,7 @@ impl<R: Storage<Run>> StreamRangesOver<R> {
         self.head.receiver.next()
     }
 
-    /// Returns the position after those that were read.
+    /// Returns the position of the first byte that wasn't read.
     ///
     /// ```
     /// # use net_base::finite::StreamRanges;
@@ -366,7 +370,7 @@ impl<R: Storage<Run>> StreamRangesOver<R> {
         self.head.receiver.first + self.head.receiver.count_read
     }
 
-    /// Returns how many positions are queued: those from `first_unread` on and below `next`.
+    /// Returns how many bytes can be read: those from `first_unread` on and below `next`.
     ///
     /// ```
     /// # use net_base::finite::StreamRanges;
@@ -382,7 +386,7 @@ impl<R: Storage<Run>> StreamRangesOver<R> {
         self.head.receiver.queued()
     }
 
-    /// Returns the window: how many positions from `next` on can arrive, held ones among them.
+    /// Returns the window: how many bytes can arrive from `next` on, waiting ones included.
     ///
     /// ```
     /// # use net_base::finite::StreamRanges;
@@ -417,7 +421,8 @@ impl<R: Storage<Run>> StreamRangesOver<R> {
         self.head.receiver.window_end(self.capacity)
     }
 
-    /// Returns the held runs as absolute (start, end), the end not included, in rising order. All are above `next`.
+    /// Returns the waiting ranges as positions (start, end), the end not included, in rising order. All are above
+    /// `next`.
     ///
     /// ```
     /// # use net_base::finite::StreamRanges;
@@ -433,7 +438,7 @@ impl<R: Storage<Run>> StreamRangesOver<R> {
         self.head.receiver.held(every(&self.runs))
     }
 
-    /// Returns how many positions from the first unread one on can arrive.
+    /// Returns how many bytes can arrive from the first unread one on.
     ///
     /// ```
     /// # use net_base::finite::StreamRanges;
@@ -448,7 +453,7 @@ impl<R: Storage<Run>> StreamRangesOver<R> {
         self.capacity
     }
 
-    /// Returns how many runs can be held.
+    /// Returns how many ranges can wait.
     ///
     /// ```
     /// # use net_base::finite::StreamRanges;

@@ -7,11 +7,11 @@ ghost use Rattle.net_ring.specs.ManagedLends.{lends_lent, lends_owned};
 
 use std::ops::IndexMut;
 
-/// A list of elements, parts of which can be shown and lent: the storage of a ring.
+/// The memory of a ring, a packet queue or another buffer: elements, which it shows and lends.
 ///
-/// It is there for slices, vectors, boxes and arrays, lent or owned. A program may implement it for
-/// memory of another kind. All calls have to be about the same elements, whose number stays. Otherwise a
-/// buffer may panic, or show other elements than were written; it touches no other memory.
+/// Slices, arrays, vectors and boxes implement it, lent or owned. You can implement it for other
+/// memory. Then all calls must be about the same elements, whose number never changes. Otherwise a
+/// buffer may panic, or show other elements than were written, but it touches no other memory.
 ///
 /// ```
 /// use net_base::storage::{RingOver, Storage};
@@ -183,8 +183,8 @@ impl<T> Storage<T> for Vec<T> {
     ghost element_set = { λ s i w. refl };
 }
 
-/// Storage of a ring or of a packet queue: lent as a slice, or owned as a vector. So the same code
-/// works with a heap and without.
+/// Storage that is lent as a slice, or owned as a vector. So the same code works with a heap and
+/// without.
 ///
 /// ```
 /// use net_base::managed::ManagedSlice;

@@ -27,16 +27,18 @@ mod managed;
 
 /// A [`RingBuffer`] over any storage.
 ///
-/// The queued elements, in order, are its queue, and the rest of the storage is its spare part. Both
-/// wrap at the storage's end:
+/// The queued elements wrap at the storage's end, and so do the free ones:
 ///
 /// ```text
 /// index      0 1 2 3 4 5 6 7
 /// storage    f g . . . c d e     read from index 5 on: the queue is c d e f g
 /// ```
 ///
-/// Only the calls for elements that are `Copy` copy them. The others lend parts of the storage, as
-/// `&mut` wherever they can, so that a packet can be filled in or changed in place.
+/// Calls that copy elements require `T: Copy`. The others lend parts of the storage, mostly as
+/// `&mut`, so that you can write elements in place.
+///
+/// In guarantees `queue` has the queued elements in order, and `spare` the free ones, the next one
+/// to fill first. `++` joins lists.
 #[derive(Debug)]
 pub struct RingOver<T, S: Storage<T>> {
     // Invariant: the head is sound for the storage.
@@ -45,10 +47,11 @@ pub struct RingOver<T, S: Storage<T>> {
     elements: PhantomData<T>,
 }
 
-/// A queue of elements, first in and first out, over storage that is lent or owned. Its calls are
+/// A first-in, first-out queue of elements, over storage that is lent or owned. Its methods are
 /// those of [`RingOver`].
 ///
-/// It also serves as the buffer of a stream, which can be written ahead of what is queued.
+/// It also serves as the buffer of a stream: elements can be written ahead of the queue, and be
+/// enqueued later.
 ///
 /// ```
 /// use net_base::storage::RingBuffer;
@@ -91,9 +94,9 @@ impl<T, S: Storage<T> + Drop> Drop for RingOver<T, S> {
 
 /// Making, emptying and measuring a ring.
 impl<T, S: Storage<T>> RingOver<T, S> {
-    /// Returns an empty ring over storage of any type, whose elements stay as they are.
+    /// Returns an empty ring over storage of any type. The storage's elements stay as they are.
     ///
-    /// smoltcp has no such call: [`RingBuffer::new`] is the one for a [`ManagedSlice`].
+    /// (Not in smoltcp.) [`RingBuffer::new`] takes a slice, a `Vec` or a `Box`.
     ///
     /// ```
     /// # use net_base::storage::RingOver;
@@ -116,7 +119,7 @@ impl<T, S: Storage<T>> RingOver<T, S> {
 
     /// Returns the ring of a storage and of a head, as [`into_parts`] returns them.
     ///
-    /// smoltcp has no such call.
+    /// (Not in smoltcp.)
     ///
     /// # Requires
     ///
@@ -135,9 +138,9 @@ impl<T, S: Storage<T>> RingOver<T, S> {
         }
     }
 
-    /// Returns the ring's storage and its head, of which [`from_parts`] makes the same ring.
+    /// Returns the ring's storage and its head. [`from_parts`] makes the same ring of them.
     ///
-    /// smoltcp has no such call.
+    /// (Not in smoltcp.)
     ///
     /// [`from_parts`]: RingOver::from_parts
     pub fn into_parts(self) -> (S, RingHead)
@@ -154,7 +157,7 @@ impl<T, S: Storage<T>> RingOver<T, S> {
 
     /// Returns the index where the ring is read, and how many elements are queued.
     ///
-    /// smoltcp has no such call.
+    /// (Not in smoltcp.)
     #[inline]
     pub fn head(&self) -> RingHead
         ensures head { result ≡ place self.now.read_at self.now.count }
@@ -197,7 +200,7 @@ impl<T, S: Storage<T>> RingOver<T, S> {
         self.storage.count()
     }
 
-    /// Empties the ring, and resets each element of the storage, which is left as its type states.
+    /// Empties the ring, and resets each element of the storage by [`Resettable::reset`].
     ///
     /// ```
     /// # use net_base::storage::{Resettable, RingBuffer};
@@ -259,8 +262,8 @@ impl<T, S: Storage<T>> RingOver<T, S> {
 
     /// Returns how many elements can be enqueued before the storage's end.
     ///
-    /// Into an empty ring `enqueue_many` can enqueue more, since it first moves the read index to the
-    /// storage's beginning.
+    /// If the ring is empty, `enqueue_many` may enqueue more, since it first moves the read index
+    /// to the storage's beginning.
     ///
     /// ```
     /// # use net_base::storage::RingBuffer;
@@ -313,10 +316,11 @@ impl<T, S: Storage<T>> RingOver<T, S> {
         self.len() >= self.capacity()
     }
 
-    /// Moves the read index of an empty ring to the storage's beginning: then all its free elements
+    /// Moves the read index of an empty ring to the storage's beginning, so that all free elements
     /// are contiguous. A ring with queued elements stays as it is.
     ///
-    /// smoltcp has no such call. It is for callers that write free elements before these are enqueued.
+    /// (Not in smoltcp.) It serves callers that write to free elements first, and enqueue them
+    /// later.
     ///
     /// ```
     /// # use net_base::storage::RingBuffer;
@@ -336,14 +340,14 @@ impl<T, S: Storage<T>> RingOver<T, S> {
     }
 }
 
-/// One element at a time: if there is none, the refusal is `Full` or `Empty`.
+/// One element at a time. The error of a full ring is `Full`, and that of an empty one `Empty`.
 impl<T, S: Storage<T>> RingOver<T, S> {
     ghost use Rattle.net_ring.specs.RingLends.{lends_one, lends_one_if};
 
-    /// Calls `f` on the next free element, which `f` has to take, enqueues it if `f` returns `Ok`, and
-    /// returns what `f` returned.
+    /// Calls `f` on the next free element, enqueues the element if `f` returns `Ok`, and returns
+    /// what `f` returned.
     ///
-    /// What `f` wrote stays in the storage in both cases.
+    /// What `f` wrote stays in the storage either way.
     ///
     /// ```
     /// # use net_base::storage::RingBuffer;
@@ -381,7 +385,7 @@ impl<T, S: Storage<T>> RingOver<T, S> {
         Ok(answer)
     }
 
-    /// Enqueues the next free element, as it is, and lends it.
+    /// Enqueues the next free element with the value that it has, and lends it.
     ///
     /// ```
     /// # use net_base::storage::{Full, RingBuffer};
@@ -430,10 +434,10 @@ impl<T, S: Storage<T>> RingOver<T, S> {
         self.storage.element_mut(at)
     }
 
-    /// Calls `f` on the first element of the queue, which `f` has to take, dequeues it if `f` returns
-    /// `Ok`, and returns what `f` returned.
+    /// Calls `f` on the first element of the queue, dequeues the element if `f` returns `Ok`, and
+    /// returns what `f` returned.
     ///
-    /// What `f` wrote stays in the storage in both cases.
+    /// What `f` wrote stays in the storage either way.
     ///
     /// ```
     /// # use net_base::storage::{Empty, RingBuffer};
@@ -521,16 +525,16 @@ impl<T, S: Storage<T>> RingOver<T, S> {
     }
 }
 
-/// Many elements at a time: those that are lent are contiguous, those that are copied wrap at the
-/// storage's end.
+/// Many elements at a time. Calls that lend elements stop at the storage's end. Calls that copy
+/// them go on at its beginning.
 impl<T, S: Storage<T>> RingOver<T, S> {
     ghost use Rattle.net_ring.specs.RingLends.{lends_many};
 
-    /// Calls `f` on the contiguous free elements that come next, enqueues as many of them as `f`
-    /// counts, and returns what `f` returned.
+    /// Calls `f` on the next free elements, as many as are contiguous. `f` returns how many of the
+    /// first ones to enqueue, and a result. Both are returned.
     ///
     /// An empty ring first moves its read index to the storage's beginning. What `f` wrote stays in
-    /// the storage, even past the elements that it counted.
+    /// the storage, even where it isn't enqueued.
     ///
     /// ```
     /// # use net_base::storage::RingBuffer;
@@ -542,7 +546,7 @@ impl<T, S: Storage<T>> RingOver<T, S> {
     ///
     /// # Requires
     ///
-    /// `f` takes the part that it is lent, and counts no more elements than it has.
+    /// The count that `f` returns is at most the length of the slice that it was lent.
     #[track_caller]
     pub fn enqueue_many_with<R, F: FnOnce(&mut [T]) -> (usize, R)>(&mut self, f: F) -> (usize, R)
         requires callable { FnOnceTakesAtMut F.FnOnce f
@@ -562,7 +566,8 @@ impl<T, S: Storage<T>> RingOver<T, S> {
         answer
     }
 
-    /// Enqueues at most `size` elements, as they are, and lends them: as many as are contiguous.
+    /// Enqueues the next free elements with the values that they have, and lends them: at most
+    /// `size`, and as many as are contiguous.
     ///
     /// An empty ring first moves its read index to the storage's beginning.
     ///
@@ -633,8 +638,8 @@ impl<T, S: Storage<T>> RingOver<T, S> {
             .enqueue_slice(self.storage.part_mut(0, capacity), data)
     }
 
-    /// Calls `f` on the contiguous elements at the head of the queue, dequeues as many of them as
-    /// `f` counts, and returns what `f` returned.
+    /// Calls `f` on the first elements of the queue, as many as are contiguous. `f` returns how
+    /// many of the first ones to dequeue, and a result. Both are returned.
     ///
     /// What `f` wrote stays in the storage.
     ///
@@ -649,7 +654,7 @@ impl<T, S: Storage<T>> RingOver<T, S> {
     ///
     /// # Requires
     ///
-    /// `f` takes the part that it is lent, and counts no more elements than it has.
+    /// The count that `f` returns is at most the length of the slice that it was lent.
     #[track_caller]
     pub fn dequeue_many_with<R, F: FnOnce(&mut [T]) -> (usize, R)>(&mut self, f: F) -> (usize, R)
         requires callable { FnOnceTakesAtMut F.FnOnce f (contiguous_queue self.old) }
@@ -701,8 +706,8 @@ impl<T, S: Storage<T>> RingOver<T, S> {
         self.storage.part_mut(span.from, span.from + span.count)
     }
 
-    /// Dequeues as many elements as `data` has room for and are queued, copies them to the beginning
-    /// of `data`, and returns how many. The rest of `data` stays as it is.
+    /// Dequeues as many elements as are queued and fit into `data`, copies them to its beginning,
+    /// and returns how many. The rest of `data` stays as it is.
     ///
     /// ```
     /// # use net_base::storage::RingBuffer;
@@ -734,12 +739,12 @@ impl<T, S: Storage<T>> RingOver<T, S> {
     }
 }
 
-/// Elements at an offset from the first free one, or from the first one of the queue.
+/// Elements at an offset, counted from the first free one or from the first one in the queue.
 impl<T, S: Storage<T>> RingOver<T, S> {
     ghost use Rattle.net_ring.specs.RingLends.{lends_many};
 
-    /// Returns the length of what `get_unallocated` lends. smoltcp has no such call. A caller needs it,
-    /// since a ring can't be asked anything while a part of it is lent.
+    /// Returns how many elements `get_unallocated` would lend. Ask before that call: the ring is
+    /// borrowed while a part of it is lent. (Not in smoltcp.)
     ///
     /// ```
     /// # use net_base::storage::RingBuffer;
@@ -761,8 +766,8 @@ impl<T, S: Storage<T>> RingOver<T, S> {
             .contiguous
     }
 
-    /// Lends at most `size` free elements from the one at `offset` on, which stay free: as many as are
-    /// contiguous, and none if `offset` is past the window.
+    /// Lends at most `size` free elements from the one at `offset` on, as many as are contiguous;
+    /// none if `offset` is past the window. They stay free.
     ///
     /// ```
     /// # use net_base::storage::RingBuffer;
@@ -791,7 +796,7 @@ impl<T, S: Storage<T>> RingOver<T, S> {
             .part_mut(span.from, span.from + span.contiguous)
     }
 
-    /// Writes as many elements of `data` as there is room for to the free elements from the one at
+    /// Copies as many elements of `data` as there is room for to the free elements from the one at
     /// `offset` on, and returns how many; 0 if `offset` is past the window. Nothing is enqueued.
     ///
     /// ```
@@ -820,7 +825,7 @@ impl<T, S: Storage<T>> RingOver<T, S> {
             .write_unallocated(self.storage.part_mut(0, capacity), offset, data)
     }
 
-    /// Enqueues `count` elements, as they are.
+    /// Enqueues the next `count` free elements with the values that they have.
     ///
     /// ```
     /// # use net_base::storage::RingBuffer;
@@ -843,8 +848,8 @@ impl<T, S: Storage<T>> RingOver<T, S> {
         self.head.enqueue(self.storage.count(), count);
     }
 
-    /// Shows at most `size` elements of the queue from the one at `offset` on: as many as are
-    /// contiguous, and none if `offset` is past the queue.
+    /// Shows at most `size` elements of the queue from the one at `offset` on, as many as are
+    /// contiguous; none if `offset` is past the queue.
     ///
     /// ```
     /// # use net_base::storage::RingBuffer;
@@ -923,8 +928,8 @@ impl<T, S: Storage<T>> RingOver<T, S> {
 }
 
 impl<T, S: Storage<T>> RingOver<T, S> {
-    /// Moves the queue to the beginning of a larger storage, whose other elements stay as they are, and returns the
-    /// storage from before. smoltcp has no such call.
+    /// Moves the queue to the beginning of a larger storage, and returns the old storage. The other
+    /// elements of the larger one stay as they are. (Not in smoltcp.)
     ///
     /// ```
     /// # use net_base::storage::RingBuffer;
@@ -936,7 +941,7 @@ impl<T, S: Storage<T>> RingOver<T, S> {
     ///
     /// # Requires
     ///
-    /// `larger` has at least `capacity` elements.
+    /// `larger` has at least `capacity()` elements.
     #[track_caller]
     pub fn grow(&mut self, mut larger: S) -> S
     where
@@ -958,7 +963,7 @@ impl<T, S: Storage<T>> RingOver<T, S> {
     }
 }
 
-/// The queue, shown. smoltcp doesn't have these calls; std's `VecDeque` does.
+/// The queue, shown as std's `VecDeque` shows it. (Not in smoltcp.)
 impl<T, S: Storage<T>> RingOver<T, S> {
     /// Shows the queue, in order, in two parts: the elements up to the storage's end, and those from
     /// its beginning on. The second part is empty unless the queue wraps.
@@ -1030,7 +1035,7 @@ impl<'a, T> From<ManagedSlice<'a, T>> for RingBuffer<'a, T> {
 impl<'a, T> From<&'a mut [T]> for RingBuffer<'a, T> {
     ghost from_gives = { λ s r. (r ≡ ring s.now 0 0) × (queue r ≡ []) × (spare r ≡ s.now) };
 
-    /// Returns an empty ring over elements that are lent, which stay as they are.
+    /// Returns an empty ring over a slice that is lent, whose elements stay as they are.
     fn from(elements: &'a mut [T]) -> Self {
         RingOver::over(ManagedSlice::Borrowed(elements))
     }
@@ -1048,7 +1053,7 @@ impl<'a, T, const N: usize> From<&'a mut [T; N]> for RingBuffer<'a, T> {
 impl<'a, T> From<Vec<T>> for RingBuffer<'a, T> {
     ghost from_gives = { λ s r. (r ≡ ring s.items 0 0) × (queue r ≡ []) × (spare r ≡ s.items) };
 
-    /// Returns an empty ring over elements of its own, which stay as they are.
+    /// Returns an empty ring over a vector, whose elements stay as they are.
     fn from(elements: Vec<T>) -> Self {
         RingOver::over(ManagedSlice::Owned(elements))
     }

@@ -72,17 +72,17 @@ IsTaken next window seq len = IsAcceptable next window seq len ⊎ IsAtEdge next
 abbrev pub IsHeard : ℕ → ℕ → ℕ → ℕ → ℕ → Type 0
 IsHeard next window most seq len = IsProbe next window seq len ⊎ IsBehind next most seq len
 
--- a reset in the window, but not at next; a SYN; and what is neither taken nor heard
+-- a reset that would be taken, but isn't at next; a SYN; and what is neither taken nor heard
 abbrev pub IsAnswered : ℕ → ℕ → ℕ → Segment → Type 0
 IsAnswered next window most s =
-    (IsTrue s.rst × (s.seq ≢ next) × IsAcceptable next window s.seq s.len)
+    (IsTrue s.rst × (s.seq ≢ next) × IsTaken next window s.seq s.len)
     ⊎ (IsFalse s.rst × (IsTrue s.syn
     ⊎ ((¬ IsTaken next window s.seq s.len) × (¬ IsHeard next window most s.seq s.len))))
 
--- a reset out of the window; and what acknowledges nothing
+-- another reset; and what acknowledges nothing
 abbrev pub IsIgnored : ℕ → ℕ → ℕ → Segment → Type 0
 IsIgnored next window most s =
-    (IsTrue s.rst × (s.seq ≢ next) × (¬ IsAcceptable next window s.seq s.len))
+    (IsTrue s.rst × (s.seq ≢ next) × (¬ IsTaken next window s.seq s.len))
     ⊎ (IsFalse s.rst × IsFalse s.syn × IsFalse s.ack
     × (IsTaken next window s.seq s.len ⊎ IsHeard next window most s.seq s.len))
 

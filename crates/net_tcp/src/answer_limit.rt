@@ -63,7 +63,7 @@ impl AnswerLimit {
         }
     }
 
-    /// Returns whether to answer a segment of which nothing is taken, and takes notice that it is answered. Moments are
+    /// Returns whether to answer a segment of which nothing is taken, and if so counts it as answered. Moments are
     /// those of one clock; if that is set back, the limit stays until the moment that it was.
     ///
     /// ```

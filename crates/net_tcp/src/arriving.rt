@@ -79,10 +79,9 @@ impl Segment {
 pub enum Arrival {
     /// Take what it acknowledges, its window, its bytes and its end.
     Take,
-    /// Take what it acknowledges and its window, but not its bytes, and answer it: the own window is
-    /// shut, and the peer asks whether it has opened; or the segment has no position, and its number is
-    /// below the first missing one, as it may be before the peer has heard of that, or to ask whether this
-    /// end is there.
+    /// Take what it acknowledges and its window, but not its bytes, and answer it: this end's window is shut, and the
+    /// peer asks whether it has opened; or the segment has no position, and its sequence number is below that of the
+    /// first missing one, as it may be before the peer has heard of that, or to ask whether this end is there.
     AcknowledgementOnly,
     /// Send an acknowledgement, and take nothing. Of bytes that all came before it reports so (RFC 2883), if the
     /// receiving end was told: `ReceivingEndOver::arrived` keeps none of them.
@@ -144,7 +143,8 @@ fn is_heard(next: u64, window: u64, greatest_window: u64, seq: u64, len: u64) ->
 /// Returns what to do with a segment, for a receiver whose first missing position is `next`, which
 /// announced `window` positions from there on, and never more than `greatest_window`: its capacity will do.
 /// It is as RFC 9293, section 3.10.7.4, has it, but for what follows. Resets and SYNs are answered as RFC
-/// 5961 has it: a reset counts only at `next`.
+/// 5961 has it: a reset counts only at `next`. One right after the window is answered too, as in Linux: a peer that
+/// has filled the window resets there, and its next reset is then at `next`.
 ///
 /// No position is in a window that is shut. Of a segment with positions that begins at `next` then, as
 /// a probe does, the acknowledgement is taken all the same: otherwise two ends that both fill the
@@ -166,6 +166,7 @@ fn is_heard(next: u64, window: u64, greatest_window: u64, seq: u64, len: u64) ->
 /// assert_eq!(arrival(110, 8, ack), Arrival::Answer); // beyond the window
 /// assert_eq!(arrival(100, 8, syn | ack), Arrival::Answer);
 /// assert_eq!((arrival(100, 0, rst), arrival(101, 0, rst)), (Arrival::Reset, Arrival::Answer));
+/// assert_eq!((arrival(110, 0, rst), arrival(111, 0, rst)), (Arrival::Answer, Arrival::Ignore));
 /// // A window that is shut is probed.
 /// let probe = Segment::new(100, 1, ack);
 /// assert_eq!(classify(100, 0, 10, probe), Arrival::AcknowledgementOnly);
@@ -180,7 +181,7 @@ pub fn classify(next: u64, window: u64, greatest_window: u64, segment: Segment) 
     if segment.rst {
         if segment.seq == next {
             Arrival::Reset
-        } else if is_acceptable(next, window, segment.seq, segment.len) {
+        } else if is_taken {
             Arrival::Answer
         } else {
             Arrival::Ignore

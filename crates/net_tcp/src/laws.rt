@@ -1,6 +1,6 @@
 //! Laws of the machines. No function here changes anything: its contract is the law.
 ghost use Rattle.std.specs.Prelude.{◌≡◌, ℕ, ◌+◌, ◌-◌, ◌*◌, ◌^◌, ◌<◌, ◌≤◌, ◌⊎◌, IsTrue, IsFalse, min, max};
-ghost use Rattle.std.specs.Prelude.{◌/◌, List, [], ◌∷◌, ◌++◌, All, Some, Bool, ℤ, false, true};
+ghost use Rattle.std.specs.Prelude.{◌/◌, List, [], ◌∷◌, ◌++◌, All, Some, Bool, ℤ, false, true, ◌&&◌, ◌||◌, not, nat_lt};
 ghost use Rattle.std.specs.Fn.{iterate};
 ghost use Rattle.net_tcp.specs.Windows.{IsAcceptable, IsInTable, IsScaleFor, announced, field_for, gain, worth};
 ghost use Rattle.net_tcp.specs.Windows.{IsBehind, IsHeard, IsTaken, window_from, with_segment, no_window, BothEnds};
@@ -16,9 +16,9 @@ ghost use Rattle.net_tcp.specs.declared.retransmission_timer.TimedSegment.{Timed
 ghost use Rattle.net_tcp.specs.declared.retransmission_timer.Expiry.TheVariants.{Probe};
 ghost use Rattle.net_assembler.specs.Positions.{Positions, contains};
 ghost use Rattle.net_tcp.specs.LossRecovery.{is_active, was_sent_again, after_sending, after_report};
-ghost use Rattle.net_tcp.specs.LossRecovery.{after_silence, is_answered, overtaken, begun};
+ghost use Rattle.net_tcp.specs.LossRecovery.{after_silence, is_answered, overtaken, begun, after_probe, found};
 ghost use Rattle.net_tcp.specs.LossRecovery.{after_hearing, after_answer, answers_copy, withdrawn};
-ghost use Rattle.net_tcp.specs.LossRecovery.{unsent_lost, blind_lost, is_wrong, taken_back, after_copies, Recovery};
+ghost use Rattle.net_tcp.specs.LossRecovery.{unsent_lost, blind_lost, is_wrong, taken_back, after_copies, after_stall, Recovery};
 
 /// States how acceptable segments and the table of RFC 9293 are related: what the table accepts is
 /// acceptable, and what is acceptable is in the table, unless it begins before the window and ends after
@@ -239,7 +239,9 @@ pub fn arrivals()
 
 /// States when a recovery is taken back: not as it begins, where the first position is missing (`begins`); nor once
 /// something was sent again in it (`sent`), until as many positions came twice (`twice`); and when it is, it has ended,
-/// and isn't taken back again (`once`).
+/// and isn't taken back again (`once`). It is taken back only after a sign of congestion (`congestion`). A stall is none
+/// (`stalled`). A timeout is one, and of the other calls those that return that a recovery begins (`reported`, `silent`,
+/// `dropped`), and no others (`others`). So no recovery is taken back of which the caller wasn't told.
 #[tactic(auto, using(crate::proofs::Wrongs::wrongs))]
 pub fn take_backs()
     ensures begins { (first sent lost : ℕ) (s : Positions) (r : Recovery) →
@@ -254,4 +256,22 @@ pub fn take_backs()
     ensures once { (r : Recovery) (first next : ℕ) (s t : Positions) →
         IsTrue (is_wrong r first s) → IsFalse (is_active (taken_back first s r) next)
         × IsFalse (is_wrong (taken_back first s r) next t) }
+    ensures congestion { (r : Recovery) (first : ℕ) (s : Positions) →
+        IsFalse r.is_congestion → IsFalse (is_wrong r first s) }
+    ensures stalled { (r : Recovery) (first sent : ℕ) →
+        (after_stall first sent r).is_congestion ≡ (is_active r first && r.is_congestion) }
+    ensures reported { (size first sent lost highest : ℕ) (s : Positions) (r : Recovery) →
+        (after_report size first sent s lost highest r).is_congestion
+        ≡ (r.is_congestion || (not (is_active r first) && nat_lt first (found s lost highest r))) }
+    ensures silent { (first sent highest : ℕ) (r : Recovery) →
+        (after_silence first sent highest r).is_congestion
+        ≡ (r.is_congestion || (not (is_active r first) && nat_lt first highest)) }
+    ensures dropped { (first sent lost : ℕ) (r : Recovery) →
+        (begun first sent lost r).is_congestion ≡ (r.is_congestion || not (is_active r first)) }
+    ensures others { (size before first sent start end unsent : ℕ) (reports equal : Bool) (s : Positions)
+        (r : Recovery) →
+        ((after_answer size before first sent reports equal unsent s r).is_congestion ≡ r.is_congestion)
+        × ((after_copies first sent start end r).is_congestion ≡ r.is_congestion)
+        × ((after_sending first sent start end r).is_congestion ≡ r.is_congestion)
+        × ((after_probe first sent start end r).is_congestion ≡ r.is_congestion) }
 {}

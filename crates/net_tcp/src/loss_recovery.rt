@@ -28,6 +28,7 @@ ghost use Rattle.net_tcp.specs.LossRecovery.{was_sent_again, in_flight, unsent_l
 ghost use Rattle.net_tcp.specs.LossRecovery.{most_later, heard_of, after_answer, answers_copy, unsent, next_range};
 ghost use Rattle.net_tcp.specs.LossRecovery.{next_segment, resumed, gone_on, begins_at, as_range, next_probe};
 ghost use Rattle.net_tcp.specs.LossRecovery.{after_copies, with_copies, is_wrong, taken_back, after_probe};
+ghost use Rattle.net_tcp.specs.LossRecovery.{after_timeout, after_stall};
 ghost use Rattle.net_tcp.specs.LossRecovery.{after_arrival};
 ghost use Rattle.net_tcp.specs.Sack.{is_permitted};
 
@@ -179,6 +180,8 @@ pub struct LossRecovery {
     has_probe: bool,
     /// Whether the peer doesn't report what has arrived, as the SYNs say.
     is_blind: bool,
+    /// Whether the last recovery was a sign of congestion, and wasn't taken back.
+    is_congestion: bool,
 }
 
 impl LossRecovery {
@@ -212,6 +215,7 @@ impl LossRecovery {
             duplicates: DUPLICATES,
             has_probe: false,
             is_blind: false,
+            is_congestion: false,
         }
     }
 
@@ -297,7 +301,8 @@ impl LossRecovery {
     /// Returns whether the last recovery was for nothing, and ends it then: nothing that it found lost is missing but
     /// what was sent again, and all that was sent again came twice (RFC 3708). Then the congestion window may be what
     /// it was when the recovery began. Ask it after each acknowledgement, an old one too, once `acknowledged` has it.
-    /// It is true once: not before another recovery begins.
+    /// It is true at most once after each call that told of congestion: `acknowledged`, `fell_silent` or
+    /// `reports_dropped` that returned true, or `timed_out`.
     ///
     /// ```
     /// # use net_base::scoreboard::Scoreboard;
@@ -320,11 +325,12 @@ impl LossRecovery {
         ensures state { recovery_of self.new
             ≡ taken_back numbers.first_unacknowledged (B.set scoreboard.now) (recovery_of self.old) }
     {
-        let is_wrong = self.until > 0
+        let is_wrong = self.is_congestion
             && self.copies.count == 0
             && self.unsent(numbers, scoreboard) == 0;
         if is_wrong {
             self.until = 0;
+            self.is_congestion = false;
         }
         is_wrong
     }
@@ -898,8 +904,9 @@ impl LossRecovery {
         begins
     }
 
-    /// Begins a recovery in which all that was sent and isn't reported is lost, as when the timer has expired. Three
-    /// segments above a position tell again that it is lost.
+    /// Begins a recovery in which all that was sent and isn't reported is lost, since the timer has expired. Three
+    /// segments above a position tell again that it is lost. Let one segment be in flight, until `take_back` says that
+    /// this was wrong.
     ///
     /// ```
     /// # use net_base::scoreboard::Scoreboard;
@@ -912,6 +919,37 @@ impl LossRecovery {
     /// assert_eq!(recovery.next_segment(numbers, &scoreboard, 800, 100, 100), Some(0..100));
     /// ```
     pub fn timed_out(&mut self, numbers: SentNumbers)
+        ensures { recovery_of self.new
+            ≡ after_timeout numbers.first_unacknowledged numbers.sent (recovery_of self.old) }
+    {
+        self.lose_all(numbers);
+        self.is_congestion = true;
+    }
+
+    /// Begins a recovery as `timed_out` does, but one that is no sign of congestion: the peer's window is shut, so it
+    /// drops what is sent, or nothing is in flight. `take_back` isn't true of it. If a recovery is active, it goes on,
+    /// and may be taken back as before.
+    ///
+    /// ```
+    /// # use net_base::scoreboard::Scoreboard;
+    /// # use net_tcp::{LossRecovery, SentNumbers};
+    /// # let numbers = SentNumbers { first_unacknowledged: 0, sent: 1 };
+    /// # let scoreboard = Scoreboard::<4>::empty();
+    /// # let mut recovery = LossRecovery::new();
+    /// // The first byte asks for a window, and is acknowledged when that opens.
+    /// recovery.stalled(numbers);
+    /// assert!(!recovery.take_back(SentNumbers { first_unacknowledged: 1, sent: 1 }, &scoreboard));
+    /// ```
+    pub fn stalled(&mut self, numbers: SentNumbers)
+        ensures { recovery_of self.new
+            ≡ after_stall numbers.first_unacknowledged numbers.sent (recovery_of self.old) }
+    {
+        let is_congestion = self.is_active(numbers) && self.is_congestion;
+        self.lose_all(numbers);
+        self.is_congestion = is_congestion;
+    }
+
+    fn lose_all(&mut self, numbers: SentNumbers)
         ensures { recovery_of self.new
             ≡ begun numbers.first_unacknowledged numbers.sent numbers.sent (forgotten (recovery_of self.old)) }
     {
@@ -930,6 +968,7 @@ impl LossRecovery {
                 since: first,
                 count: 0,
             };
+            self.is_congestion = true;
         }
         self.until = numbers.sent;
         self.lost = lost;

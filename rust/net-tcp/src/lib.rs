@@ -3,7 +3,7 @@
 //! defaults, as the [crate `net_base`](net_base#what-is-proved) says. The crate needs Rust 1.85.
 //!
 //! The ends know positions, times and bytes, but no headers, no states of a connection and no clock. How much may be in
-//! flight is the caller's choice. `docs/GUIDE.md` of the repository has the order of their calls. In QUIC the connection
+//! flight is the caller's choice. `docs/TCP.md` of the repository has the order of their calls. In QUIC the connection
 //! has the timer and finds the losses, so its streams have [`SendRanges`](net_base::finite::SendRanges).
 //!
 //! ```

@@ -49,7 +49,7 @@ fn play_segment(draw: &mut Draw, next: u64) {
     let is_heard = if len == 0 { is_late } else { window == 0 && seq == next };
     let wanted = match (rst, syn, is_taken, is_heard, ack) {
         (true, ..) if seq == next => Arrival::Reset,
-        (true, ..) if acceptable => Arrival::Answer,
+        (true, _, true, ..) => Arrival::Answer,
         (true, ..) => Arrival::Ignore,
         (_, true, ..) | (_, _, false, false, _) => Arrival::Answer,
         (.., false) => Arrival::Ignore,

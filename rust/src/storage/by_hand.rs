@@ -15,8 +15,8 @@ use crate::managed::ManagedSlice;
 use crate::time::Instant;
 
 impl<'a, T> RingBuffer<'a, T> {
-    /// Returns an empty ring over the storage, whose elements stay as they are. An array by value is the storage of a
-    /// [`RingOver`].
+    /// Returns an empty ring over the storage, whose elements stay as they are. For an array by value use
+    /// [`RingOver::over`].
     ///
     /// ```
     /// # use net_base::storage::{RingBuffer, RingOver};
@@ -39,7 +39,9 @@ impl<'a, T, S: Storage<T>> IntoIterator for &'a RingOver<T, S> {
     }
 }
 
-/// Panics if there is no room for an element: those before it are queued.
+/// # Panics
+///
+/// Panics if there is no room for an element. Those before it are queued then.
 impl<T, S: Storage<T>> Extend<T> for RingOver<T, S> {
     fn extend<I: IntoIterator<Item = T>>(&mut self, elements: I) {
         for element in elements {
@@ -48,7 +50,9 @@ impl<T, S: Storage<T>> Extend<T> for RingOver<T, S> {
     }
 }
 
-/// Panics if there is no room for an element: those before it are queued.
+/// # Panics
+///
+/// Panics if there is no room for an element. Those before it are queued then.
 impl<'e, T: Copy + 'e, S: Storage<T>> Extend<&'e T> for RingOver<T, S> {
     fn extend<I: IntoIterator<Item = &'e T>>(&mut self, elements: I) {
         self.extend(elements.into_iter().copied());
@@ -59,7 +63,7 @@ impl<T> ExactSizeIterator for Iter<'_, T> {}
 
 impl<T> iter::FusedIterator for Iter<'_, T> {}
 
-/// A text for which there is no room isn't queued, nor a part of it.
+/// Enqueues a text as a whole, or returns an error if there is no room for it.
 impl<S: Storage<u8>> fmt::Write for RingOver<u8, S> {
     fn write_str(&mut self, text: &str) -> fmt::Result {
         if text.len() > self.window() {
@@ -81,8 +85,7 @@ impl<T, S: Storage<T>> fmt::Debug for RingOver<T, S> {
 }
 
 impl<'a, H> PacketBuffer<'a, H> {
-    /// Returns a queue with no packets, which has as many slots as `slots` has elements, and room for as many bytes as
-    /// `bytes` has.
+    /// Returns an empty queue over these slots and bytes.
     ///
     /// ```
     /// # use net_base::storage::{PacketBuffer, PacketMetadata};
@@ -101,7 +104,7 @@ impl<'a, H> PacketBuffer<'a, H> {
 }
 
 impl Run {
-    /// A run that isn't in use, of which storage of runs is made.
+    /// A range (a *run*, in names) that isn't in use. Storage of ranges is made of it.
     ///
     /// ```
     /// use net_base::storage::Run;
@@ -131,9 +134,9 @@ impl<H, M: Storage<PacketMetadata<H>>, B: Storage<u8>> fmt::Debug for PacketsOve
 }
 
 impl Assembler {
-    /// Returns an assembler with no position, which has room for 4 runs, as smoltcp's has. For another number write
-    /// `Assembler::<8>::empty()`; for as many as features say, `Assembler::<ASSEMBLER_MAX_SEGMENT_COUNT>::empty()` with
-    /// the constant of [`config`](crate::config).
+    /// Returns an empty assembler with room for 4 ranges, as smoltcp's has. For 8 write `Assembler::<8>::empty()`.
+    /// For as many as features say, write `Assembler::<ASSEMBLER_MAX_SEGMENT_COUNT>::empty()`, with the constant of
+    /// [`config`](crate::config).
     ///
     /// ```
     /// # use net_base::storage::Assembler;
@@ -206,8 +209,7 @@ impl From<TooManyHolesError> for FragmentError {
 }
 
 impl<'a, const N: usize> FragmentBuffer<'a, N> {
-    /// Returns a buffer with no byte, which has room for `N` runs. Where the type of a variable or a field names no `N`
-    /// it is 4.
+    /// Returns an empty buffer with room for `N` ranges. A type that is written without an `N` has 4.
     ///
     /// ```
     /// # use net_base::storage::FragmentBuffer;
@@ -269,7 +271,7 @@ macro_rules! as_slices {
 }
 
 as_slices! {
-    /// An array of its own as storage: then the constructors `over` can make a `static`, as in the example `interrupt`.
+    /// An array by value as storage. With it `over` can make a `static`, as in the example `interrupt`.
     ///
     /// ```
     /// use net_base::storage::RingOver;

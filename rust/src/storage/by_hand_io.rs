@@ -21,8 +21,8 @@ fn lent(bytes: &[u8], is_for_now: bool) -> Result<&[u8]> {
     moved(bytes.len(), 1, is_for_now).map(|_count| bytes)
 }
 
-/// Reads what is queued. An empty ring is refused as [`ErrorKind::WouldBlock`]: a queue has no end, and more may be
-/// enqueued. So `read_to_end` appends all that is queued, and then is refused; `dequeue_slice` isn't.
+/// Reads what is queued. An empty ring returns the error [`ErrorKind::WouldBlock`], since more may be enqueued. So
+/// `read_to_end` appends all that is queued, and then returns that error.
 ///
 /// ```
 /// use net_base::storage::RingOver;
@@ -40,7 +40,7 @@ impl<S: Storage<u8>> Read for RingOver<u8, S> {
     }
 }
 
-/// Lends the contiguous part of what is queued. An empty ring is refused as [`ErrorKind::WouldBlock`].
+/// Lends the first contiguous part of the queue. An empty ring returns the error [`ErrorKind::WouldBlock`].
 ///
 /// ```
 /// use net_base::storage::RingOver;
@@ -65,8 +65,8 @@ impl<S: Storage<u8>> BufRead for RingOver<u8, S> {
     }
 }
 
-/// Reads what is queued. Where nothing is it is refused as [`ErrorKind::WouldBlock`]: this stream doesn't end. One that
-/// does is a [`FiniteReceiver`](crate::finite::FiniteReceiver).
+/// Reads what is queued. If nothing is, it returns the error [`ErrorKind::WouldBlock`], since this stream doesn't
+/// end. For one that does, use a [`FiniteReceiver`](crate::finite::FiniteReceiver).
 ///
 /// ```
 /// use net_base::receiver::Receiver;
@@ -87,7 +87,8 @@ impl<S: Storage<u8>, const N: usize> Read for ReceiverOver<S, N> {
     }
 }
 
-/// Lends the contiguous part of what is queued. Where nothing is it is refused as [`ErrorKind::WouldBlock`].
+/// Lends the first contiguous part of the queue. If nothing is queued, it returns the error
+/// [`ErrorKind::WouldBlock`].
 impl<S: Storage<u8>, const N: usize> BufRead for ReceiverOver<S, N> {
     fn fill_buf(&mut self) -> Result<&[u8]> {
         lent(self.peek(0, usize::MAX), true)
@@ -101,8 +102,8 @@ impl<S: Storage<u8>, const N: usize> BufRead for ReceiverOver<S, N> {
     }
 }
 
-/// Reads what is queued. Where nothing is, that is the end, `Ok(0)`, if all bytes were read, as
-/// [`has_read_all`](FiniteReceiverOver::has_read_all) tests; otherwise it is refused as [`ErrorKind::WouldBlock`].
+/// Reads what is queued. If nothing is, it returns `Ok(0)` at the stream's end, as
+/// [`has_read_all`](FiniteReceiverOver::has_read_all) tests, and otherwise the error [`ErrorKind::WouldBlock`].
 ///
 /// ```
 /// use net_base::finite::FiniteReceiver;
@@ -124,8 +125,8 @@ impl<S: Storage<u8>, const N: usize> Read for FiniteReceiverOver<S, N> {
     }
 }
 
-/// Lends the contiguous part of what is queued. Where nothing is, that is the end, an empty slice, if all bytes were
-/// read; otherwise it is refused as [`ErrorKind::WouldBlock`].
+/// Lends the first contiguous part of the queue. If nothing is queued, it returns an empty slice at the stream's end,
+/// and otherwise the error [`ErrorKind::WouldBlock`].
 impl<S: Storage<u8>, const N: usize> BufRead for FiniteReceiverOver<S, N> {
     fn fill_buf(&mut self) -> Result<&[u8]> {
         lent(self.receiver().peek(0, usize::MAX), !self.has_read_all())
@@ -139,8 +140,8 @@ impl<S: Storage<u8>, const N: usize> BufRead for FiniteReceiverOver<S, N> {
     }
 }
 
-/// Enqueues as many bytes as there is room for. A full ring is refused as [`ErrorKind::WouldBlock`]; one without
-/// storage takes nothing ever, which is `Ok(0)`.
+/// Enqueues as many bytes as there is room for. A full ring returns the error [`ErrorKind::WouldBlock`], and one
+/// without storage `Ok(0)`, since it never has room.
 ///
 /// ```
 /// use net_base::storage::RingOver;
@@ -161,9 +162,9 @@ impl<S: Storage<u8>> Write for RingOver<u8, S> {
     }
 }
 
-/// Takes as many bytes as there is room for. A closed sender is refused as [`ErrorKind::BrokenPipe`], and a full one as
-/// [`ErrorKind::WouldBlock`]; one without storage, or of whose positions none is left, takes nothing ever, which is
-/// `Ok(0)`. `flush` doesn't wait for acknowledgements.
+/// Takes as many bytes as there is room for. A closed sender returns the error [`ErrorKind::BrokenPipe`], and a full
+/// one [`ErrorKind::WouldBlock`]. One that will never have room, without storage or a position left, returns `Ok(0)`.
+/// `flush` doesn't wait for acknowledgements.
 ///
 /// ```
 /// use net_base::finite::FiniteSender;

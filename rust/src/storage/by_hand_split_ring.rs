@@ -5,12 +5,12 @@ use super::{SplitCounts, SplitSpan};
 /// A ring of `N` bytes that one side fills while another empties it, without a lock: an interrupt and a program, or two
 /// threads.
 ///
-/// [`split`](Self::split) gives each side its end. Of a ring in a `static`, which nothing borrows for writing, one side
-/// calls [`write`](Self::write) and the other one [`read`](Self::read). If two sides write at once, or two read, bytes
-/// are lost or mixed up, and from then on both calls may return 0. Nothing panics, and no other memory is touched.
+/// [`split`](Self::split) gives each side its end. With a `static`, only one side may call [`write`](Self::write),
+/// and only the other [`read`](Self::read). If two sides write at once, or two read, bytes are lost or mixed up, and
+/// from then on both calls may return 0. Nothing panics, and no other memory is touched.
 ///
-/// The arithmetic of the indices is proved, by [`SplitCounts`]. The memory ordering isn't: tests run each interleaving of
-/// the steps of small programs. smoltcp has no such ring.
+/// The index arithmetic is proved, by [`SplitCounts`]. The memory ordering is only tested, on each interleaving of
+/// the steps of small programs. (Not in smoltcp.)
 ///
 /// ```
 /// use net_base::storage::SplitRing;
@@ -89,8 +89,8 @@ impl<const N: usize> SplitRing<N> {
         N
     }
 
-    /// Returns how many bytes are queued. Before the other side's next call the side that reads finds at least so many,
-    /// and the side that writes has room for at least the rest of the [`capacity`](Self::capacity).
+    /// Returns how many bytes are queued. If the reader asks, it can take at least `len` bytes. If the writer asks,
+    /// it can add at least `capacity - len`.
     ///
     /// ```
     /// # use net_base::storage::SplitRing;
@@ -121,10 +121,10 @@ impl<const N: usize> SplitRing<N> {
         self.len() == 0
     }
 
-    /// Lends both ends, each for one side. What is queued stays so.
+    /// Lends both ends, one for each side. Queued bytes stay queued.
     ///
-    /// The ring is borrowed for writing, so that a second writer doesn't compile: a call of `&self` could be made twice.
-    /// A `static` is split where its owner has it as `&'static mut`, as `Box::leak` and the crate `static_cell` give it.
+    /// It takes `&mut self`, so that a second writer doesn't compile. For ends that live as long as the program, get
+    /// the ring as `&'static mut` from `Box::leak` or the crate `static_cell`.
     ///
     /// ```
     /// use net_base::storage::SplitRing;
@@ -141,7 +141,8 @@ impl<const N: usize> SplitRing<N> {
         (SplitWriter(self), SplitReader(self))
     }
 
-    /// Writes the first of these bytes, as many as there is room for, and returns how many: a call of one side alone.
+    /// Writes the first of these bytes, as many as there is room for, and returns how many. Only one side may call
+    /// it.
     ///
     /// ```
     /// # use net_base::storage::SplitRing;
@@ -169,8 +170,8 @@ impl<const N: usize> SplitRing<N> {
         lent.span.count
     }
 
-    /// Takes as many bytes as there are and `into` has room for, and returns how many: a call of the other side alone.
-    /// The rest of `into` stays as it is.
+    /// Takes as many bytes as are queued and fit into `into`, and returns how many. The rest of `into` stays as it
+    /// is. Only one side may call it.
     ///
     /// ```
     /// # use net_base::storage::SplitRing;
@@ -227,7 +228,7 @@ impl<const N: usize> SplitWriter<'_, N> {
         N
     }
 
-    /// Returns how many bytes are queued: there is room for the rest of the capacity, or more.
+    /// Returns how many bytes are queued. At least `capacity - len` more can be written.
     #[must_use]
     pub fn len(&self) -> usize {
         self.0.len()
@@ -241,7 +242,7 @@ impl<const N: usize> SplitWriter<'_, N> {
 }
 
 impl<const N: usize> SplitReader<'_, N> {
-    /// Takes as many bytes as there are and `into` has room for, and returns how many. The rest of `into` stays as it
+    /// Takes as many bytes as are queued and fit into `into`, and returns how many. The rest of `into` stays as it
     /// is.
     pub fn read(&mut self, into: &mut [u8]) -> usize {
         self.0.read(into)
@@ -253,7 +254,7 @@ impl<const N: usize> SplitReader<'_, N> {
         N
     }
 
-    /// Returns how many bytes are queued, or fewer than that.
+    /// Returns how many bytes are queued. At least as many can be read.
     #[must_use]
     pub fn len(&self) -> usize {
         self.0.len()

@@ -10,7 +10,9 @@ pub mod table;
 
 pub use head::FragmentsHead;
 
-/// Why a fragment or a size is refused. Nothing changes then.
+/// Why a fragment or a packet's size is refused. Nothing changes.
+///
+/// Drop the fragment. If the packet needed it, the packet stays incomplete, and expires.
 ///
 /// ```
 /// use net_base::storage::{FragmentBuffer, FragmentError};
@@ -24,19 +26,19 @@ pub use head::FragmentsHead;
 #[derive(Debug, Clone, Copy, PartialEq, Eq, Hash)]
 #[non_exhaustive]
 pub enum FragmentError {
-    /// It reaches past the end of the buffer.
+    /// It ends past the buffer.
     TooLong,
-    /// It would leave more maximal runs of bytes, with holes between them, than there is room for.
+    /// There would be more than `N` ranges of bytes, with holes between them.
     TooManyHoles,
-    /// It contradicts the packet's size: another size is known, or a byte at that size or above has arrived; or the
-    /// fragment reaches past a known size.
+    /// It contradicts the packet's size: another size is known, a byte at that size or above has
+    /// arrived, or the fragment ends past a known size.
     OtherSize,
 }
 
 /// A [`FragmentBuffer`] over any storage.
 ///
-/// `N` is how many maximal runs of bytes it has room for. Fragments may overlap: at each position the
-/// byte is that of the last fragment there.
+/// `N` is how many ranges (*runs*, in names) of bytes it has room for, with holes between them.
+/// Where fragments overlap, the last one that came wins:
 ///
 /// ```text
 /// add(0, "abcde")    abcde.....
@@ -53,8 +55,11 @@ pub struct FragmentsOver<B: Storage<u8>, const N: usize> {
     runs: [Run; N],
 }
 
-/// Puts one packet together out of fragments that arrive in any order, as those of IPv4 do, over bytes
-/// that are lent or owned. Its calls are those of [`FragmentsOver`].
+/// Puts one packet together out of IP fragments that arrive in any order, over bytes that are lent
+/// or owned. Its methods are those of [`FragmentsOver`].
+///
+/// Where fragments overlap, the last one that came wins. To refuse such fragments, ask
+/// [`overlaps`](FragmentsOver::overlaps) or [`differs`](FragmentsOver::differs) before `add`.
 ///
 /// ```
 /// use net_base::storage::{FragmentBuffer, FragmentError};
@@ -70,7 +75,7 @@ pub struct FragmentsOver<B: Storage<u8>, const N: usize> {
 pub type FragmentBuffer<'a, const N: usize = 4> = FragmentsOver<ManagedSlice<'a, u8>, N>;
 
 impl<B: Storage<u8>, const N: usize> FragmentsOver<B, N> {
-    /// Returns an empty buffer over storage of any type, which expires after `expires_at`.
+    /// Returns an empty buffer over storage of any type. Its packet expires after `expires_at`.
     ///
     /// ```
     /// # use net_base::storage::FragmentsOver;
@@ -89,7 +94,7 @@ impl<B: Storage<u8>, const N: usize> FragmentsOver<B, N> {
         }
     }
 
-    /// Returns the bytes, as fragments were written to them. smoltcp has no such call.
+    /// Returns the storage, with the bytes that fragments wrote to it. (Not in smoltcp.)
     ///
     /// ```
     /// # use net_base::storage::FragmentsOver;
@@ -116,8 +121,7 @@ impl<B: Storage<u8>, const N: usize> FragmentsOver<B, N> {
         self.bytes.count()
     }
 
-    /// Returns whether no byte has arrived since the buffer was made or reset: no packet is begun. A fragment of no
-    /// bytes begins none.
+    /// Returns whether no byte has arrived since the buffer was made or reset.
     ///
     /// ```
     /// # use net_base::storage::FragmentBuffer;
@@ -132,8 +136,7 @@ impl<B: Storage<u8>, const N: usize> FragmentsOver<B, N> {
         self.head.present.is_empty()
     }
 
-    /// Returns the moment up to which the packet is waited for. It is not expired at that moment, but at each later
-    /// one.
+    /// Returns the moment up to which the packet is waited for. It expires after that moment.
     ///
     /// ```
     /// # use net_base::storage::FragmentBuffer;
@@ -147,9 +150,7 @@ impl<B: Storage<u8>, const N: usize> FragmentsOver<B, N> {
         moment_of(&self.head)
     }
 
-    /// Adds a fragment, whose first byte is that of the packet at `offset`.
-    ///
-    /// The end of an accepted fragment fits `usize`.
+    /// Adds a fragment, whose first byte is the packet's byte at `offset`.
     ///
     /// ```
     /// # use net_base::storage::{FragmentBuffer, FragmentError};
@@ -163,16 +164,16 @@ impl<B: Storage<u8>, const N: usize> FragmentsOver<B, N> {
     ///
     /// # Errors
     ///
-    /// It is refused, and nothing changes, exactly if it reaches past the buffer's end, which is
-    /// `TooLong`, or else past the packet's, which is `OtherSize`, or else would leave more than `N`
-    /// maximal runs, which is `TooManyHoles`. A fragment without bytes has its end at `offset`.
+    /// `TooLong` if the fragment ends past the buffer; else `OtherSize` if it ends past a known
+    /// size; else `TooManyHoles` if there would be more than `N` ranges. Nothing changes then. A
+    /// fragment without bytes ends at `offset`.
     pub fn add(&mut self, offset: usize, data: &[u8]) -> Result<(), FragmentError> {
         let count = self.bytes.count();
         let bytes = self.bytes.part_mut(0, count);
         self.head.add(bytes, &mut self.runs, offset, data)
     }
 
-    /// Adds a fragment, as `add` does, and takes its end as the packet's if it is the last one.
+    /// Adds a fragment as `add` does. If it is the last one, its end is the packet's size.
     ///
     /// ```
     /// # use net_base::storage::{FragmentBuffer, FragmentError};
@@ -188,9 +189,9 @@ impl<B: Storage<u8>, const N: usize> FragmentsOver<B, N> {
     ///
     /// # Errors
     ///
-    /// It is refused, and nothing changes, exactly if it reaches past the buffer's end, which is
-    /// `TooLong`, or else past the packet's, or is the last one and the packet can't end there, which is
-    /// `OtherSize`, or else would leave more than `N` maximal runs, which is `TooManyHoles`.
+    /// `TooLong` if the fragment ends past the buffer; else `OtherSize` if it ends past a known
+    /// size, or is the last one and the packet can't end there; else `TooManyHoles` if there would
+    /// be more than `N` ranges. Nothing changes then.
     pub fn add_fragment(
         &mut self,
         offset: usize,
@@ -202,8 +203,8 @@ impl<B: Storage<u8>, const N: usize> FragmentsOver<B, N> {
         self.head.add_fragment(bytes, &mut self.runs, offset, data, is_last)
     }
 
-    /// Starts over for another packet, which is waited for up to `expires_at`, with this fragment of it.
-    /// If it is refused, nothing changes.
+    /// Starts over with a fragment of another packet, which is waited for up to `expires_at`. If
+    /// the fragment is refused, nothing changes.
     ///
     /// ```
     /// # use net_base::storage::{FragmentBuffer, FragmentError};
@@ -220,7 +221,7 @@ impl<B: Storage<u8>, const N: usize> FragmentsOver<B, N> {
     ///
     /// # Errors
     ///
-    /// It is refused as `add_fragment` refuses it in an empty buffer.
+    /// Those of `add_fragment` on an empty buffer.
     pub fn reset_with(
         &mut self,
         offset: usize,
@@ -252,14 +253,13 @@ impl<B: Storage<u8>, const N: usize> FragmentsOver<B, N> {
     ///
     /// # Errors
     ///
-    /// It is refused, and nothing changes, exactly if the buffer has fewer bytes, which is
-    /// `TooLong`, or else if another size is known, or a byte at `size` or above has arrived, which is
-    /// `OtherSize`.
+    /// `TooLong` if the buffer has fewer bytes; else `OtherSize` if another size is known, or a
+    /// byte at `size` or above has arrived. Nothing changes then.
     pub fn set_total_size(&mut self, size: usize) -> Result<(), FragmentError> {
         self.head.set_total_size(self.bytes.count(), &self.runs, size)
     }
 
-    /// Returns the packet's size, once it is known. smoltcp has no such call.
+    /// Returns the packet's size, once it is known. (Not in smoltcp.)
     ///
     /// ```
     /// # use net_base::storage::{FragmentBuffer, FragmentError};
@@ -276,11 +276,11 @@ impl<B: Storage<u8>, const N: usize> FragmentsOver<B, N> {
         self.head.total_size()
     }
 
-    /// Returns whether one of the `len` positions from `offset` on has arrived: whether a fragment there
-    /// overlaps bytes that are present. They need not be within the buffer.
+    /// Returns whether a fragment of `len` bytes at `offset` overlaps bytes that have arrived. It
+    /// may end past the buffer.
     ///
-    /// It is asked before `add`, by callers who refuse a packet whose fragments overlap (RFC 5722). A
-    /// fragment that arrives twice overlaps too: to allow that, ask `differs`. smoltcp has no such call.
+    /// Ask before `add`, to drop a packet whose fragments overlap (RFC 5722). A fragment that
+    /// arrives twice overlaps too: to allow that, ask `differs`. (Not in smoltcp.)
     ///
     /// ```
     /// # use net_base::storage::{FragmentBuffer, FragmentError};
@@ -296,11 +296,11 @@ impl<B: Storage<u8>, const N: usize> FragmentsOver<B, N> {
         self.head.overlaps(&self.runs, offset, len)
     }
 
-    /// Returns whether a byte that arrived differs from that of the fragment whose first byte is that of the packet at
-    /// `offset`. The fragment need not be within the buffer.
+    /// Returns whether a fragment at `offset` has another byte than one that has arrived. It may
+    /// end past the buffer.
     ///
-    /// It is asked before `add`, by callers who refuse a packet whose fragments disagree, and take one that
-    /// arrives twice. smoltcp has no such call.
+    /// Ask before `add`, to refuse fragments that disagree, and accept one that arrives twice. (Not
+    /// in smoltcp.)
     ///
     /// ```
     /// # use net_base::storage::{FragmentBuffer, FragmentError};
@@ -318,8 +318,8 @@ impl<B: Storage<u8>, const N: usize> FragmentsOver<B, N> {
         self.head.differs(bytes, &self.runs, offset, data)
     }
 
-    /// Shows the bytes of the packet. `None` exactly if its size is not known or one of its bytes
-    /// is missing.
+    /// Shows the bytes of the packet; `None` if its size isn't known, or one of its bytes is
+    /// missing.
     ///
     /// ```
     /// # use net_base::storage::{FragmentBuffer, FragmentError};
@@ -340,10 +340,11 @@ impl<B: Storage<u8>, const N: usize> FragmentsOver<B, N> {
         }
     }
 
-    /// Shows the `len` bytes of the packet from `offset` on, whether the packet is whole or not. `None` exactly if
-    /// they aren't within the buffer or one of them is missing.
+    /// Shows the `len` bytes of the packet from `offset` on, even if others are missing; `None` if
+    /// one of them is missing or past the buffer.
     ///
-    /// A message that a packet was given up (RFC 792's "time exceeded") has its first bytes. smoltcp has no such call.
+    /// ICMP's "time exceeded" (RFC 792) quotes the first bytes of a packet that has expired. (Not
+    /// in smoltcp.)
     ///
     /// ```
     /// # use net_base::storage::{FragmentBuffer, FragmentError};
@@ -408,9 +409,9 @@ fn moment_of(head: &FragmentsHead) -> Instant {
 impl core::fmt::Display for FragmentError {
     fn fmt(&self, f: &mut core::fmt::Formatter<'_>) -> core::fmt::Result {
         f.write_str(match self {
-            FragmentError::TooLong => "the fragment ends past the buffer",
-            FragmentError::TooManyHoles => "too many holes",
-            FragmentError::OtherSize => "the fragment contradicts the packet's size",
+            FragmentError::TooLong => "the fragment ends past the buffer: drop it",
+            FragmentError::TooManyHoles => "too many holes: drop the fragment",
+            FragmentError::OtherSize => "the fragment contradicts the packet's size: drop it",
         })
     }
 }

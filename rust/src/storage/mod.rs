@@ -1,7 +1,8 @@
-//! Byte rings, packet queues, assemblers and buffers of fragments, over storage that is lent or owned.
+//! Byte rings, packet queues, assemblers and fragment buffers, over storage that is lent or owned.
 //!
 //! A [`RingBuffer`] is a queue of elements, a [`PacketBuffer`] one of whole packets, and a [`SplitRing`] one of bytes
-//! that an interrupt fills. An [`Assembler`] is a set of ranges, and a [`FragmentBuffer`] puts a packet together.
+//! that an interrupt fills. An [`Assembler`] knows which ranges have arrived, and a [`FragmentBuffer`] puts a packet
+//! together. Names say *run* for a range.
 //!
 //! ```
 //! use net_base::storage::{Assembler, RingBuffer, RingOver, SplitRing};

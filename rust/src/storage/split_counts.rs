@@ -11,16 +11,17 @@ use crate::storage::ring_head::{RingHead, Span};
 
 /// The two counts of a ring, as one of its ends knows them: its own, and the other's as it last loaded it.
 ///
-/// Each end alone stores its own count: the end that writes elements stores `written`, and the end that reads them
-/// `taken`. Both are 0 at first. A count stays below twice the capacity and begins at 0 again there, so that a full
-/// ring isn't taken for an empty one, and the capacity is any number up to half of the greatest `usize`.
+/// Only the end that writes stores `written`, and only the end that reads stores `taken`. Both
+/// begin at 0, and wrap at twice the capacity, so that a full ring isn't taken for an empty one.
+/// The capacity is at most half of `usize::MAX`.
 ///
-/// What an end loaded of the other's count may be old: then the end knows of less room, or of fewer elements, than
-/// there are, and of none that isn't there. It may not be older than what it loaded before.
+/// The other end's count may be old when it is used. Then an end sees less room, or fewer elements,
+/// than there are, and never more. A load must not return an older count than the one before it.
 ///
-/// The order of memory is the caller's: an end loads the other's count by `Ordering::Acquire`, and stores its own by
-/// `Ordering::Release` once it has written or read the elements. Between an interrupt and what it interrupts on one
-/// processor, `Relaxed` and `compiler_fence` are enough. smoltcp has no such ring.
+/// Memory ordering is up to the caller: load the other end's count with `Ordering::Acquire`. Store
+/// your own with `Ordering::Release`, after you have written or read the elements. Between an
+/// interrupt and what it interrupts on one processor, `Relaxed` and `compiler_fence` are enough.
+/// (Not in smoltcp.)
 ///
 /// ```
 /// use net_base::storage::SplitCounts;
@@ -46,8 +47,8 @@ pub struct SplitCounts {
     pub taken: usize,
 }
 
-/// The elements that one end may write or read, and its count after them. An end that wrote or read fewer of them
-/// stores the count that it gets for so many, by the same counts.
+/// The elements that one end may write or read, and the count that it stores after them. If it
+/// wrote or read fewer, ask the same counts for that many, and store that `next`.
 ///
 /// ```
 /// use net_base::storage::SplitCounts;
@@ -115,7 +116,7 @@ impl SplitCounts {
     ///
     /// # Panics
     ///
-    /// Panics unless the counts are those of a ring of `capacity` elements, as `is_sound` tests.
+    /// Panics unless the counts are sound for `capacity`, as `is_sound` tests.
     #[inline(always)]
     #[track_caller]
     #[must_use]
@@ -135,7 +136,7 @@ impl SplitCounts {
     ///
     /// # Panics
     ///
-    /// Panics unless the counts are those of a ring of `capacity` elements, as `is_sound` tests.
+    /// Panics unless the counts are sound for `capacity`, as `is_sound` tests.
     #[inline(always)]
     #[track_caller]
     #[must_use]
@@ -145,8 +146,8 @@ impl SplitCounts {
         span(capacity, self.taken, length.min(size))
     }
 
-    /// Writes as many elements of `data` as there is room for, and returns the count to store: the steps of the end
-    /// that writes, where nothing else uses the storage meanwhile.
+    /// Writes as many elements of `data` as there is room for, and returns the count to store.
+    /// Nothing else may use the storage meanwhile.
     ///
     /// ```
     /// # use net_base::storage::SplitCounts;
@@ -157,8 +158,7 @@ impl SplitCounts {
     ///
     /// # Panics
     ///
-    /// Panics unless the counts are those of a ring of as many elements as the storage has, as
-    /// `is_sound` tests.
+    /// Panics unless the counts are sound for the length of the storage, as `is_sound` tests.
     #[inline]
     #[track_caller]
     #[must_use]
@@ -168,8 +168,8 @@ impl SplitCounts {
         after(storage.len(), self.written, count)
     }
 
-    /// Copies as many elements as there are and `into` has room for to its beginning, and returns the count to store:
-    /// the step of the end that reads. The rest of `into` stays as it is.
+    /// Copies as many elements as are queued and fit to the beginning of `into`, and returns the
+    /// count to store. The rest of `into` stays as it is.
     ///
     /// ```
     /// # use net_base::storage::SplitCounts;
@@ -180,8 +180,7 @@ impl SplitCounts {
     ///
     /// # Panics
     ///
-    /// Panics unless the counts are those of a ring of as many elements as the storage has, as
-    /// `is_sound` tests.
+    /// Panics unless the counts are sound for the length of the storage, as `is_sound` tests.
     #[inline]
     #[track_caller]
     #[must_use]

@@ -19,10 +19,10 @@ use crate::stream::receiver::ReceiverOver;
 
 /// A [`FiniteReceiver`] over any storage.
 ///
-/// The end is the position after the last byte. It has a number, as a byte has (that of TCP's FIN), and
-/// needs no room. Segments may arrive in any order, the last one too. `receiver` lends the receiver of
-/// the bytes, for all that isn't about the end: how many are queued, a look at them, the window, the
-/// held runs. The list of held runs doesn't show an end that came early, so its sender sends it again.
+/// A position is the number of a byte in its stream, 64 bits. The end is the position after the last byte: QUIC's final
+/// size, and the position of TCP's FIN, which needs no room. Segments may arrive in any order, the last one too.
+/// `receiver` lends the receiver of the bytes, for all that isn't about the end: the queue, the window, and the waiting
+/// ranges (*runs*, or *held*, in names). These don't show a FIN that came early, so its sender sends it again.
 ///
 /// ```
 /// use net_base::finite::FiniteReceiverOver;
@@ -30,7 +30,7 @@ use crate::stream::receiver::ReceiverOver;
 /// let mut receiver = FiniteReceiverOver::<_, 4>::over([0u8; 16]);
 /// assert!(receiver.keep(3, b"de", true).is_ok() && receiver.end() == Some(5));
 /// assert!(receiver.keep(0, b"abc", false).is_ok() && receiver.is_complete());
-/// assert_eq!(receiver.acknowledged(), 6); // the end has a number, too
+/// assert_eq!(receiver.acknowledged(), 6); // the FIN counts as one position
 /// ```
 #[derive(Clone)]
 pub struct FiniteReceiverOver<S: Storage<u8>, const N: usize> {
@@ -41,9 +41,8 @@ pub struct FiniteReceiverOver<S: Storage<u8>, const N: usize> {
     after_end: u64,
 }
 
-/// A `Receiver` that knows where its stream ends, once a segment has said so, by TCP's FIN or QUIC's
-/// final size. It is over storage that is lent or owned, and its calls are those of
-/// [`FiniteReceiverOver`].
+/// A `Receiver` that knows where its stream ends, once a segment has said so, by TCP's FIN or QUIC's final size. Its
+/// storage is lent or owned, and its calls are those of [`FiniteReceiverOver`].
 ///
 /// ```
 /// use net_base::finite::FiniteReceiver;
@@ -72,7 +71,7 @@ impl<S: Storage<u8>, const N: usize> FiniteReceiverOver<S, N> {
     ///
     /// # Panics
     ///
-    /// Panics unless `first` is below `u64::MAX`: an end there would have no number after it.
+    /// Panics unless `first` is below `u64::MAX`: no stream can end there.
     #[must_use]
     #[track_caller]
     pub const fn over_at(storage: S, first: u64) -> Self {
@@ -81,15 +80,15 @@ impl<S: Storage<u8>, const N: usize> FiniteReceiverOver<S, N> {
         FiniteReceiverOver { receiver: ReceiverOver::over_at(storage, first), after_end: 0 }
     }
 
-    /// Returns the storage. Its bytes can be any.
+    /// Returns the storage. Its contents are unspecified.
     #[must_use]
     pub fn into_storage(self) -> S {
         let FiniteReceiverOver { receiver, after_end: _ } = self;
         receiver.into_storage()
     }
 
-    /// Lends the receiver of the bytes, for reading. Bytes are kept and read by the calls of this type
-    /// alone, so none is kept after the end.
+    /// Lends the receiver of the bytes, to look at. Only the calls of this type keep and read bytes, so none is kept
+    /// after the end.
     ///
     /// ```
     /// # use net_base::finite::FiniteReceiver;
@@ -103,8 +102,7 @@ impl<S: Storage<u8>, const N: usize> FiniteReceiverOver<S, N> {
         &self.receiver
     }
 
-    /// Begins again over the same storage: a receiver of a stream that begins at position `first`;
-    /// nothing has arrived.
+    /// Begins again over the same storage: a stream that begins at position `first`; nothing has arrived.
     ///
     /// ```
     /// # use net_base::finite::FiniteReceiver;
@@ -117,7 +115,7 @@ impl<S: Storage<u8>, const N: usize> FiniteReceiverOver<S, N> {
     ///
     /// # Panics
     ///
-    /// Panics unless `first` is below `u64::MAX`: an end there would have no number after it.
+    /// Panics unless `first` is below `u64::MAX`: no stream can end there.
     #[track_caller]
     pub fn reset_at(&mut self, first: u64) {
         assert!(first < u64::MAX, "no number is left for an end");
@@ -125,8 +123,7 @@ impl<S: Storage<u8>, const N: usize> FiniteReceiverOver<S, N> {
         self.after_end = 0;
     }
 
-    /// Moves what is stored to a larger storage, and returns the one from before, as `Receiver::grow` does. The end
-    /// stays as it is.
+    /// Moves the bytes to a larger storage, and returns the old one, as `Receiver::grow` does. The end stays as it is.
     ///
     /// ```
     /// # use net_base::finite::FiniteReceiver;
@@ -139,16 +136,15 @@ impl<S: Storage<u8>, const N: usize> FiniteReceiverOver<S, N> {
     ///
     /// # Panics
     ///
-    /// Panics unless `larger` has at least as many bytes as the storage.
+    /// Panics unless `larger` is at least as long as the storage.
     #[track_caller]
     pub fn grow(&mut self, larger: S) -> S {
         assert!(larger.count() >= self.receiver().capacity(), "a smaller storage");
         self.receiver.grow(larger)
     }
 
-    /// Returns whether the stream can end at a position: it is the end that is known, or none is, and it
-    /// isn't below the first missing position or a held run's end. No stream ends at `u64::MAX`, which
-    /// has no number after it.
+    /// Returns whether the stream can end at a position. It can end at the known end alone or, while none is known,
+    /// anywhere not below `next` or a waiting range's end. No stream ends at `u64::MAX`.
     ///
     /// ```
     /// # use net_base::finite::FiniteReceiver;
@@ -167,19 +163,17 @@ impl<S: Storage<u8>, const N: usize> FiniteReceiverOver<S, N> {
         }
     }
 
-    /// Keeps the bytes of a segment that are in the free window and below the end, as
-    /// `Receiver::keep` does. `fin` says whether the stream ends after the segment. Any segment may
-    /// arrive: bytes after which an end has no number, which no stream has, are left out.
+    /// Keeps the bytes of a segment that are in the free window and below the end, as `Receiver::keep` does. `fin` says
+    /// whether the stream ends after the segment. It takes any position, and requires nothing: bytes too near to
+    /// `u64::MAX` for an end after them are left out.
     ///
-    /// The end is taken if it is at most the end of the free window. An end beyond that is left out, as
-    /// the bytes there are, and the sender sends it again. An end without bytes at the first missing
-    /// position is taken even if nothing is free.
+    /// A FIN at or below the end of the free window is taken. One above is left out, as the bytes there are, and the
+    /// sender sends it again. A FIN without bytes at `next` is taken even if nothing is free.
     ///
-    /// An end in order is never refused: that of a last segment which begins at or below the first missing
-    /// position, and ends at or above it and within the free window, while something is missing. What was held
-    /// beyond the queue goes then, and so does an end that was known and isn't reached: a peer's true end is
-    /// taken, whatever came before it. TCP wants that. A QUIC stream has one final size, so its receiver asks
-    /// `can_end` first.
+    /// A FIN in order is never refused: one whose segment begins at or below `next`, and ends at or above it and within
+    /// the free window, while something is missing. What waits above its end is dropped then, and another end that was
+    /// known is forgotten: so the peer's true FIN is taken, whatever was forged before it. TCP wants that. A QUIC
+    /// stream has one final size, so its receiver asks `can_end` first.
     ///
     /// ```
     /// # use net_base::finite::{FiniteError, FiniteReceiver};
@@ -194,8 +188,8 @@ impl<S: Storage<u8>, const N: usize> FiniteReceiverOver<S, N> {
     ///
     /// # Errors
     ///
-    /// `OtherEnd` if the segment says that the stream ends where it can't (`can_end`), and not in order; else
-    /// `TooManyHoles` if its bytes are refused. Then nothing changes.
+    /// `OtherEnd` if the segment isn't in order, and says that the stream ends where it can't (`can_end`). Else
+    /// `TooManyHoles` if its bytes would make too many waiting ranges. Nothing changes then.
     ///
     /// # [Guarantees](crate#guarantees)
     ///
@@ -205,8 +199,8 @@ impl<S: Storage<u8>, const N: usize> FiniteReceiverOver<S, N> {
         self.receiver.keep_finite(&mut self.after_end, pos, bytes, fin)
     }
 
-    /// Moves bytes from the head of the queue to the beginning of `into`, and returns how many: as
-    /// many as are queued and as `into` has room for. The rest of `into` stays as it is.
+    /// Moves bytes from the head of the queue to the beginning of `into`, and returns how many: all that are queued, if
+    /// `into` has room for them. The rest of `into` stays as it is.
     ///
     /// ```
     /// # use net_base::finite::FiniteReceiver;
@@ -225,9 +219,8 @@ impl<S: Storage<u8>, const N: usize> FiniteReceiverOver<S, N> {
         self.receiver.read(into)
     }
 
-    /// Calls `f` on the first part of the queue, as `Receiver::as_slices` shows it, takes as many
-    /// bytes off the queue as `f` counts, and returns what `f` returned. The part is empty only if the
-    /// queue is.
+    /// Calls `f` on the first part of the queue, as `Receiver::as_slices` lends it, and returns what `f` returned. The
+    /// first value of that is how many bytes to take off the queue. The part is empty only if the queue is.
     ///
     /// ```
     /// # use net_base::finite::FiniteReceiver;
@@ -240,7 +233,7 @@ impl<S: Storage<u8>, const N: usize> FiniteReceiverOver<S, N> {
     ///
     /// # Panics
     ///
-    /// Panics unless `f` takes that part, and counts no more bytes than it is lent.
+    /// Panics unless `f` returns no more than the number of bytes it was lent.
     #[track_caller]
     pub fn read_with<R, F: FnOnce(&[u8]) -> (usize, R)>(&mut self, f: F) -> (usize, R) {
         let part = self.receiver.first_slice();
@@ -251,7 +244,7 @@ impl<S: Storage<u8>, const N: usize> FiniteReceiverOver<S, N> {
         answer
     }
 
-    /// Takes the first `count` bytes off the queue and copies none, as `Receiver::remove` does.
+    /// Takes the first `count` bytes off the queue, and copies none, as `Receiver::remove` does.
     ///
     /// ```
     /// # use net_base::finite::FiniteReceiver;
@@ -271,7 +264,7 @@ impl<S: Storage<u8>, const N: usize> FiniteReceiverOver<S, N> {
         self.receiver.remove_part(count);
     }
 
-    /// Returns the position after the last byte, once it is known.
+    /// Returns the stream's end, QUIC's final size: the position after the last byte. `None` while it isn't known.
     ///
     /// ```
     /// # use net_base::finite::FiniteReceiver;
@@ -286,7 +279,7 @@ impl<S: Storage<u8>, const N: usize> FiniteReceiverOver<S, N> {
         known_end(self.after_end)
     }
 
-    /// Returns whether all bytes and the end have arrived. Once it is so it stays so, until `reset_at`.
+    /// Returns whether all bytes and the end have arrived. Once true it stays true, until `reset_at`.
     ///
     /// ```
     /// # use net_base::finite::FiniteReceiver;
@@ -300,8 +293,7 @@ impl<S: Storage<u8>, const N: usize> FiniteReceiverOver<S, N> {
         self.receiver.next() == end_or_max(self.after_end)
     }
 
-    /// Returns the first missing position, as `next` of the receiver of the bytes does: at most the end. An
-    /// acknowledgement of TCP carries `acknowledged`.
+    /// Returns the first missing position, which is at most the end. TCP acknowledges `acknowledged` instead.
     ///
     /// ```
     /// # use net_base::finite::FiniteReceiver;
@@ -315,8 +307,8 @@ impl<S: Storage<u8>, const N: usize> FiniteReceiverOver<S, N> {
         self.receiver.next()
     }
 
-    /// Returns the number that an acknowledgement carries: the first missing position, or, once all
-    /// bytes and the end have arrived, the end plus 1, since the end has a number.
+    /// Returns the position that TCP acknowledges: `next`, or, once all bytes and the end have arrived, the end plus 1,
+    /// since the FIN counts as one position.
     ///
     /// ```
     /// # use net_base::finite::FiniteReceiver;
@@ -330,7 +322,7 @@ impl<S: Storage<u8>, const N: usize> FiniteReceiverOver<S, N> {
         acknowledged(self.receiver.next(), self.after_end)
     }
 
-    /// Returns whether all bytes were read, up to the end. Once it is so it stays so, until `reset_at`.
+    /// Returns whether all bytes were read, up to the end. Once true it stays true, until `reset_at`.
     ///
     /// ```
     /// # use net_base::finite::FiniteReceiver;
@@ -344,9 +336,8 @@ impl<S: Storage<u8>, const N: usize> FiniteReceiverOver<S, N> {
         self.receiver.first_unread() == end_or_max(self.after_end)
     }
 
-    /// Returns the end of the window to announce: that of the free window, or `acknowledged` if that is
-    /// greater, as where the end is acknowledged and the storage is full. `None` if the free window's end
-    /// doesn't fit 64 bits.
+    /// Returns the end of the window to announce: that of the free window, or `acknowledged` if that is greater, as
+    /// when the FIN is acknowledged and the storage is full. `None` if the free window's end doesn't fit 64 bits.
     ///
     /// ```
     /// # use net_base::finite::FiniteReceiver;
@@ -363,12 +354,12 @@ impl<S: Storage<u8>, const N: usize> FiniteReceiverOver<S, N> {
         Some(end.max(self.acknowledged()))
     }
 
-    /// Returns where the bytes of a segment of `len` bytes at `pos` are, as `Receiver::parts_of` does. Bytes at
-    /// the end or above it are counted as `past_end` alone. While no end is known, that counts bytes which leave no
-    /// number for an end after them: no stream has such.
+    /// Returns where the bytes of a segment of `len` bytes at `pos` are, as `Receiver::parts_of` does. Bytes at the end
+    /// or above it are counted as `past_end` alone. While no end is known, those are the bytes too near to `u64::MAX`
+    /// for an end after them.
     ///
-    /// It is asked before the segment is kept, by callers who refuse a peer that sends bytes past the end, as
-    /// QUIC's do, or past the free window.
+    /// Ask before the segment is kept, to refuse a peer that sends bytes past the end, as QUIC wants, or past the free
+    /// window.
     ///
     /// ```
     /// # use net_base::finite::FiniteReceiver;
@@ -388,9 +379,8 @@ impl<S: Storage<u8>, const N: usize> FiniteReceiverOver<S, N> {
         SegmentParts { past_end: len - below, ..self.receiver.parts_of(pos, below) }
     }
 
-    /// Returns how many bytes of a segment of `len` bytes at `position` would be new: those in the
-    /// free window and below the end whose positions are not held. Positions that leave no number for an end
-    /// after them, which no stream has, aren't counted.
+    /// Returns how many bytes of a segment of `len` bytes at `position` would be new: those in the free window, below
+    /// the end, and in no waiting range. Bytes too near to `u64::MAX` for an end after them aren't counted.
     ///
     /// ```
     /// # use net_base::finite::FiniteReceiver;

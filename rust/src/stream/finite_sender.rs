@@ -11,15 +11,15 @@ use core::ops::Range;
 
 /// A [`FiniteSender`] over any storage.
 ///
-/// Its queue has the bytes that were written and not yet acknowledged. It serves as the sending half of
-/// a TCP socket: `send_at` lends the bytes of a segment, and notes that they were sent.
+/// Its queue has the bytes that were written and aren't acknowledged yet. It serves as the sending half of a TCP
+/// socket: `send_at` lends the bytes of a segment, and notes that they were sent.
 ///
-/// Positions are absolute and counted in bytes, as a `Receiver` counts them. The storage's length is
-/// the most bytes that are queued.
+/// A position is the number of a byte in its stream, 64 bits. The storage's length is the most bytes that can be
+/// queued.
 ///
-/// Once it is closed nothing can be written, and the end has the number after the last byte's (that of
-/// TCP's FIN): it is sent, reported and acknowledged as a byte is, and takes no room. A number is kept
-/// for it, so that it can always be closed. A stream that doesn't end has a sender that is never closed.
+/// Once it is closed nothing can be written, and the FIN has the position after the last byte's. The FIN is sent,
+/// reported and acknowledged as a byte is, and takes no room. A position is kept free for it, so the sender can always
+/// be closed. If the stream doesn't end, never close it.
 ///
 /// No call allocates. smoltcp's TCP socket has its transmit buffer inside.
 ///
@@ -29,7 +29,7 @@ use core::ops::Range;
 /// let mut sender = FiniteSenderOver::over([0u8; 8]);
 /// assert_eq!(sender.write(b"abc"), 3);
 /// sender.close();
-/// assert_eq!(sender.send_at(0, 9).bytes, b"abc"); // and the end, whose number is 3
+/// assert_eq!(sender.send_at(0, 9).bytes, b"abc"); // and the FIN, at position 3
 /// assert!(sender.acknowledge(4) && sender.is_closed_and_acknowledged());
 /// ```
 #[derive(Clone)]
@@ -41,8 +41,7 @@ pub struct FiniteSenderOver<S: Storage<u8>> {
     storage: S,
 }
 
-/// A sender of a stream that ends, over storage that is lent or owned. Its calls are those of
-/// [`FiniteSenderOver`].
+/// A sender of a stream that ends. Its storage is lent or owned, and its calls are those of [`FiniteSenderOver`].
 ///
 /// ```
 /// use net_base::finite::FiniteSender;
@@ -65,11 +64,11 @@ impl<S: Storage<u8>> FiniteSenderOver<S> {
 
     /// Returns a sender of a stream that begins at position `first`, to which nothing was written.
     ///
-    /// Its capacity is the length of `storage` in bytes, of which 0 is allowed.
+    /// Its capacity is the length of `storage`, which may be 0.
     ///
     /// # Panics
     ///
-    /// Panics unless `first` is below `u64::MAX`: an end there would have no number after it.
+    /// Panics unless `first` is below `u64::MAX`: no stream can end there.
     #[must_use]
     #[track_caller]
     pub const fn over_at(storage: S, first: u64) -> Self {
@@ -77,7 +76,7 @@ impl<S: Storage<u8>> FiniteSenderOver<S> {
         FiniteSenderOver { head: FiniteSenderHead::new(first), storage }
     }
 
-    /// Returns the storage. Its bytes can be any.
+    /// Returns the storage. Its contents are unspecified.
     #[must_use]
     pub fn into_storage(self) -> S {
         let FiniteSenderOver { head: _, storage } = self;
@@ -98,15 +97,15 @@ impl<S: Storage<u8>> FiniteSenderOver<S> {
     ///
     /// # Panics
     ///
-    /// Panics unless `first` is below `u64::MAX`: an end there would have no number after it.
+    /// Panics unless `first` is below `u64::MAX`: no stream can end there.
     #[track_caller]
     pub fn reset_at(&mut self, first: u64) {
         assert!(first < u64::MAX, "no number is left for an end");
         self.head = FiniteSenderHead::new(first);
     }
 
-    /// Moves the queue to the beginning of a larger storage, and returns the one from before, whose bytes can be any.
-    /// All numbers stay, and `window` grows by as many bytes as the storage does, as far as positions go.
+    /// Moves the queue to a larger storage, and returns the old one, whose contents are unspecified. All positions
+    /// stay, and `window` grows by as much as the storage does, as far as there are positions.
     ///
     /// ```
     /// # use net_base::finite::FiniteSender;
@@ -119,7 +118,7 @@ impl<S: Storage<u8>> FiniteSenderOver<S> {
     ///
     /// # Panics
     ///
-    /// Panics unless `larger` has at least as many bytes as the storage.
+    /// Panics unless `larger` is at least as long as the storage.
     #[track_caller]
     pub fn grow(&mut self, mut larger: S) -> S {
         assert!(larger.count() >= self.capacity(), "a smaller storage");
@@ -130,8 +129,8 @@ impl<S: Storage<u8>> FiniteSenderOver<S> {
         replace(&mut self.storage, larger)
     }
 
-    /// Returns the first number that isn't acknowledged: TCP's SND.UNA. It is the first unacknowledged
-    /// position, or the one after it once the end is acknowledged.
+    /// Returns the first position that isn't acknowledged: TCP's SND.UNA. Once the FIN is acknowledged it is
+    /// `numbers_end`.
     ///
     /// ```
     /// # use net_base::finite::FiniteSender;
@@ -145,7 +144,7 @@ impl<S: Storage<u8>> FiniteSenderOver<S> {
         self.head.first_number()
     }
 
-    /// Returns the number after the last byte's, and after the end's once the sender is closed.
+    /// Returns the position after the last byte, or after the FIN once the sender is closed.
     ///
     /// ```
     /// # use net_base::finite::FiniteSender;
@@ -160,7 +159,7 @@ impl<S: Storage<u8>> FiniteSenderOver<S> {
         self.head.numbers_end()
     }
 
-    /// Returns the number after the last one that was ever sent: TCP's SND.MAX.
+    /// Returns the position after the last one that was ever sent: TCP's SND.MAX.
     ///
     /// ```
     /// # use net_base::finite::FiniteSender;
@@ -217,7 +216,7 @@ impl<S: Storage<u8>> FiniteSenderOver<S> {
         self.len() == 0
     }
 
-    /// Returns the most bytes that are queued: the storage's length.
+    /// Returns the storage's length: the most bytes that can be queued.
     ///
     /// ```
     /// # use net_base::finite::FiniteSender;
@@ -230,8 +229,8 @@ impl<S: Storage<u8>> FiniteSenderOver<S> {
         self.storage.count()
     }
 
-    /// Returns the window: how many bytes `write` would take. As many as have room in the storage and
-    /// below the last position, `u64::MAX - 1`, which is kept for the end; none once the sender is closed.
+    /// Returns how many bytes `write` would take: those for which the storage has room, and none once the sender is
+    /// closed. The last position, `u64::MAX - 1`, is kept for the FIN.
     ///
     /// ```
     /// # use net_base::finite::FiniteSender;
@@ -243,7 +242,7 @@ impl<S: Storage<u8>> FiniteSenderOver<S> {
         self.head.room(self.storage.count())
     }
 
-    /// Enqueues the first of these bytes, as many as `window` says, and returns how many.
+    /// Enqueues the first of these bytes, up to `window`, and returns how many.
     ///
     /// ```
     /// # use net_base::finite::FiniteSender;
@@ -276,18 +275,17 @@ impl<S: Storage<u8>> FiniteSenderOver<S> {
         self.head.close();
     }
 
-    /// Lends the queued bytes of a segment from the one at `pos` on, without a copy: as many as are
-    /// contiguous in the storage, which wraps. No byte is lent if the byte at `pos` isn't queued.
+    /// Lends the queued bytes of a segment from the one at `pos` on, without a copy, up to the storage's end, where the
+    /// queue wraps. It lends none if the byte at `pos` isn't queued.
     ///
-    /// `fin` says that the segment ends the stream (TCP's FIN): the sender is closed, the bytes
-    /// end where it does, and the end isn't acknowledged. A segment without bytes that ends the stream is the
-    /// end alone.
+    /// `fin` says that the segment has the FIN: the sender is closed, the bytes reach the end, and the FIN isn't
+    /// acknowledged. It may have no bytes.
     ///
-    /// All its numbers, the end's among them, are below `limit`: the end of the window is one, as
-    /// `PeerWindow::send_limit` gives it, and `(pos + mss).min(send_limit)` keeps a segment size too.
+    /// All its positions, the FIN's included, are below `limit`. Pass the end of the peer's window, as
+    /// `PeerWindow::send_limit` returns it, or `(pos + mss).min(send_limit)` to keep the segment size too.
     ///
     /// Whatever is written later, the segment is one of the stream. Law `lent_segments` (`docs/laws.md`) says which
-    /// numbers it has.
+    /// positions it has.
     ///
     /// ```
     /// # use net_base::finite::{FiniteSender, LentBytes};
@@ -307,9 +305,8 @@ impl<S: Storage<u8>> FiniteSenderOver<S> {
         LentBytes { bytes: self.storage.part(from, from + lent.0.contiguous), fin: lent.1 }
     }
 
-    /// Lends and returns what `peek_at` does, and notes that the segment was sent: `sent` becomes the
-    /// number after its last one, the end's counted, unless `sent` is above that. A segment without
-    /// numbers changes nothing.
+    /// Lends what `peek_at` does, and notes that the segment was sent: `sent` rises to the position after its last one,
+    /// the FIN's included, unless it is above. A segment without bytes and FIN changes nothing.
     ///
     /// ```
     /// # use net_base::finite::{FiniteSender, LentBytes};
@@ -317,7 +314,7 @@ impl<S: Storage<u8>> FiniteSenderOver<S> {
     /// # let mut sender = FiniteSender::new_at(&mut storage[..], 100);
     /// assert_eq!(sender.write(b"hello"), 5);
     /// sender.close();
-    /// let bytes = sender.send_at(100, 105); // the end's number is 105
+    /// let bytes = sender.send_at(100, 105); // the FIN's position is 105
     /// assert_eq!(bytes, LentBytes { bytes: b"hello", fin: false });
     /// assert_eq!(sender.send_at(105, 106), LentBytes { bytes: b"", fin: true });
     /// assert_eq!(sender.sent(), 106);
@@ -328,8 +325,8 @@ impl<S: Storage<u8>> FiniteSenderOver<S> {
         LentBytes { bytes: self.storage.part(from, from + lent.0.contiguous), fin: lent.1 }
     }
 
-    /// Notes that all numbers below `pos` were sent, the end's among them if `pos` is past it, and
-    /// returns true. Returns false, and changes nothing, if `pos` is above `numbers_end`.
+    /// Notes that all positions below `pos` were sent, the FIN's if it is one of them, and returns true. Returns false,
+    /// and changes nothing, if `pos` is above `numbers_end`.
     ///
     /// ```
     /// # use net_base::finite::FiniteSender;
@@ -339,14 +336,19 @@ impl<S: Storage<u8>> FiniteSenderOver<S> {
     /// assert!(sender.mark_sent(102) && sender.mark_sent(101));
     /// assert!(sender.sent() == 102 && !sender.mark_sent(104));
     /// ```
+    ///
+    /// # [Guarantees](crate#guarantees)
+    ///
+    /// - `result` exactly if `pos <= old(self).numbers_end()`
+    /// - if `!result`, then `self == old(self)`
     #[must_use]
     pub fn mark_sent(&mut self, pos: u64) -> bool {
         self.head.mark_sent(self.storage.count(), pos)
     }
 
-    /// Dequeues the bytes below `next`, notes that the end is acknowledged if `next` is past it, and
-    /// returns true. Returns false, and changes nothing, if `next` is below `first_number` or above
-    /// `sent`. RFC 9293, section 3.10.7.4, wants an acknowledgement above `sent` refused.
+    /// Dequeues the bytes below `next`, notes that the FIN is acknowledged if its position is below `next`, and returns
+    /// true. Returns false, and changes nothing, if `next` is below `first_number` or above `sent`. RFC 9293, section
+    /// 3.10.7.4, wants an acknowledgement above `sent` refused.
     ///
     /// ```
     /// # use net_base::finite::FiniteSender;
@@ -381,7 +383,7 @@ impl<S: Storage<u8>> FiniteSenderOver<S> {
         self.head.is_closed()
     }
 
-    /// Returns whether all bytes and the end are acknowledged. Once it is so it stays so, until `reset_at`.
+    /// Returns whether all bytes and the FIN are acknowledged. Once true it stays true, until `reset_at`.
     ///
     /// ```
     /// # use net_base::finite::FiniteSender;
@@ -396,8 +398,8 @@ impl<S: Storage<u8>> FiniteSenderOver<S> {
         self.head.is_closed_and_acknowledged()
     }
 
-    /// Lends the bytes of a range, in two parts, and returns whether the stream ends after them, as `peek_at` does for
-    /// those that are contiguous in the storage. If the range begins below `first_number`, it lends none.
+    /// Lends the bytes of a range, in two parts, and returns whether the stream ends after them, as `peek_at` does up
+    /// to the storage's end. It lends none if the range begins below `first_number`.
     ///
     /// ```
     /// # use net_base::finite::FiniteSender;
@@ -406,7 +408,7 @@ impl<S: Storage<u8>> FiniteSenderOver<S> {
     /// assert_eq!(sender.write(b"abcdef"), 6);
     /// sender.close();
     /// assert_eq!((sender.segment_bytes(2..5).front, sender.segment_bytes(2..5).fin), (&b"cde"[..], false));
-    /// // The end has the number 6.
+    /// // The FIN's position is 6.
     /// assert_eq!((sender.segment_bytes(2..7).front, sender.segment_bytes(2..7).fin), (&b"cdef"[..], true));
     /// ```
     #[must_use]

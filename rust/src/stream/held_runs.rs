@@ -4,10 +4,9 @@
 
 use crate::storage::RunIter;
 
-/// An iterator over the held runs of a receiver, made by `held`.
+/// An iterator over the waiting ranges (*runs*, or *held*, in names) of a receiver, made by `held`.
 ///
-/// It yields (start, end) of each run as absolute positions in rising order, the end not included,
-/// and then ends.
+/// It yields the positions (start, end) of each range, the end not included, in rising order.
 ///
 /// ```
 /// use net_base::receiver::{HeldRunIter, Receiver};
@@ -24,7 +23,7 @@ pub struct HeldRunIter<'a> {
     from: u64,
 }
 
-/// The iterator of a `Receiver<N>`, which yields at most `N` runs.
+/// The iterator of a `Receiver<N>`, which yields at most `N` waiting ranges.
 ///
 /// ```
 /// use net_base::receiver::{HeldRuns, Receiver};
@@ -70,9 +69,9 @@ pub struct HeldRun {
     pub end: u64,
 }
 
-/// An iterator over held runs, the newest first, made by `newest_runs`: at most `K`.
+/// An iterator over at most `K` waiting ranges (*runs*, in names), the newest first, made by `newest_runs`.
 ///
-/// It yields (start, end) of each run as absolute positions, the end not included.
+/// It yields the positions (start, end) of each range, the end not included.
 ///
 /// ```
 /// use net_base::receiver::{NewestRunIter, Receiver};

@@ -1,8 +1,8 @@
 // Written by tools/erase.py from crates/net_receiver/src/kept.rt: a change here would be lost.
 //! The results of a segment: what was kept, or why a receiver of a stream that ends refuses it.
 
-/// How many bytes of a segment were kept, by how many `next` moved, and the first held runs: what
-/// `segment` returns.
+/// How many bytes of a segment were kept, how many became readable, and the first waiting ranges (*runs*, in names):
+/// what `segment` returns.
 ///
 /// ```
 /// use net_base::receiver::{Kept, Receiver};
@@ -17,16 +17,17 @@
 #[derive(Debug, Clone, Copy, PartialEq, Eq, Hash)]
 #[non_exhaustive]
 pub struct Kept {
-    /// How many bytes were kept: those of the segment whose positions are in the free window.
+    /// How many bytes of the segment were kept: those whose positions are in the free window.
     pub kept: usize,
-    /// How many bytes joined the queue: by how many positions the first missing position moved up.
+    /// How many bytes became readable by this call: by how much `next` rose. The method `queued` counts all readable
+    /// bytes.
     pub queued: usize,
-    /// The first three held runs after the call: absolute (start, end), the end not included, in
-    /// rising order, filled from the first on. They are listed even if no byte was kept.
+    /// The first three waiting ranges after the call, as positions (start, end), the end not included, in rising order.
+    /// `None` fills the rest. They are listed even if no byte was kept.
     pub sack: [Option<(u64, u64)>; 3],
 }
 
-/// How many bytes of a segment were kept, and by how many `next` moved: what `keep` returns.
+/// How many bytes of a segment were kept, and how many became readable: what `keep` returns.
 ///
 /// ```
 /// use net_base::receiver::{KeptBytes, Receiver};
@@ -39,9 +40,10 @@ pub struct Kept {
 /// ```
 #[derive(Debug, Clone, Copy, PartialEq, Eq)]
 pub struct KeptBytes {
-    /// How many bytes were kept: those of the segment whose positions are in the free window.
+    /// How many bytes of the segment were kept: those whose positions are in the free window.
     pub kept: usize,
-    /// How many bytes joined the queue: by how many positions the first missing position moved up.
+    /// How many bytes became readable by this call: by how much `next` rose. The method `queued` counts all readable
+    /// bytes.
     pub queued: usize,
 }
 
@@ -59,18 +61,17 @@ pub struct KeptBytes {
 #[derive(Debug, Clone, Copy, PartialEq, Eq)]
 #[non_exhaustive]
 pub struct SegmentParts {
-    /// How many are below `next`: they were read or are queued, or are before the stream's first byte.
+    /// How many are below `next`: read, queued, or before the stream's first byte.
     pub old: usize,
-    /// How many are in the free window. `keep` keeps them, unless it refuses the segment.
+    /// How many are in the free window. `keep` keeps them, unless it returns an error.
     pub in_window: usize,
-    /// How many are at the end of the free window or above it, or from position `u64::MAX` on, which no
-    /// stream has.
+    /// How many are at the end of the free window or above it, or at `u64::MAX` or above, where no stream has bytes.
     pub beyond: usize,
-    /// How many are at the stream's end or above it, and so in no other count. A `Receiver` counts none.
+    /// How many are at the stream's end or above it, and in no other count. A `Receiver` counts none.
     pub past_end: usize,
 }
 
-/// Why a segment is refused. Nothing changes then.
+/// Why a segment was refused. Nothing has changed then.
 ///
 /// ```
 /// use net_base::finite::{FiniteError, FiniteReceiver};
@@ -84,21 +85,18 @@ pub struct SegmentParts {
 #[derive(Debug, Clone, Copy, PartialEq, Eq, Hash)]
 #[non_exhaustive]
 pub enum FiniteError {
-    /// Its bytes would make more held runs than there is room for. Over TCP drop it, since the peer sends it again.
-    /// Over QUIC keep its bytes, and pass them again once `next` has risen.
+    /// The segment's bytes would make more waiting ranges than there is room for. Grow the storage up to a limit of
+    /// yours and call again, or drop the packet without acknowledging it: the peer sends it again.
     TooManyHoles,
-    /// It says that the stream ends where it can't: at another position than an earlier one said,
-    /// below the first missing position or the end of a held run, or at `u64::MAX`. Over QUIC that is a
-    /// FINAL_SIZE_ERROR (RFC 9000, section 4.5).
+    /// The segment says that the stream ends where it can't: elsewhere than at the known end, below `next` or the end
+    /// of a waiting range, or at `u64::MAX`. Over TCP drop the segment. Over QUIC it is a FINAL_SIZE_ERROR (RFC 9000,
+    /// section 4.5).
     OtherEnd,
 }
 
 impl core::fmt::Display for FiniteError {
     fn fmt(&self, f: &mut core::fmt::Formatter<'_>) -> core::fmt::Result {
-        f.write_str(match self {
-            FiniteError::TooManyHoles => "too many holes",
-            FiniteError::OtherEnd => "the end contradicts what has arrived",
-        })
+        f.write_str(match self { FiniteError::TooManyHoles => "too many holes: the segment must be sent again", FiniteError::OtherEnd => "the end contradicts what has arrived: drop the segment, or in QUIC close the connection" })
     }
 }
 

@@ -20,10 +20,11 @@ use core::ops::Range;
 
 /// A [`Receiver`] over any storage.
 ///
-/// A position is the number of a byte in the stream, whose first byte has position `first`. `next` is
-/// the first missing position. The bytes below it that weren't read yet are queued: they can be read.
-/// The free window is the positions from `next` on for which there is room, TCP's receive window.
-/// Bytes beyond `next` are held at their places, in at most `N` runs, until those before them arrive:
+/// A *position* is the number of a byte in its stream, 64 bits; the first byte has position `first`. `next` is the
+/// first missing position. The bytes below it that weren't read yet are queued: they can be read. The free window is
+/// the positions from `next` on for which there is room, TCP's receive window. Bytes above `next` wait at their places,
+/// in at most `N` *waiting ranges* (*runs*, or *held*, in names), until those before them arrive. What is missing
+/// before a waiting range is a *hole*.
 ///
 /// ```text
 /// position  first           next                       window_end
@@ -31,10 +32,10 @@ use core::ops::Range;
 ///                    |------------- capacity --------------|
 /// ```
 ///
-/// The stream's byte number i, counted from 0, has the index i modulo the capacity in the storage.
+/// The byte at position `p` has the index `(p - first) % capacity` in the storage.
 ///
-/// No call allocates. smoltcp's TCP socket joins ring and assembler in its own `process`; this is
-/// the part of it that stores what was received.
+/// No call allocates. smoltcp's TCP socket joins ring and assembler in its `process` function; this is the part of it
+/// that stores what was received.
 #[derive(Clone)]
 pub struct ReceiverOver<S: Storage<u8>, const N: usize> {
     // Invariant: the queue is that of the ring, whose read index is the count of bytes read modulo the
@@ -45,8 +46,8 @@ pub struct ReceiverOver<S: Storage<u8>, const N: usize> {
     runs: [Run; N],
 }
 
-/// Makes one stream of bytes out of segments that arrive in any order, over storage that is lent or
-/// owned. Its calls are those of [`ReceiverOver`].
+/// Makes one stream of bytes out of segments that arrive in any order. Its storage is lent or owned, and its calls are
+/// those of [`ReceiverOver`].
 ///
 /// It is the receiving half of a TCP socket, or of any protocol that numbers the bytes of a stream.
 ///
@@ -55,8 +56,8 @@ pub struct ReceiverOver<S: Storage<u8>, const N: usize> {
 ///
 /// let mut storage = [0u8; 8];
 /// let mut receiver = Receiver::<4>::new_at(&mut storage[..], 100);
-/// assert_eq!(receiver.segment(103, b"de").map(|it| it.queued), Ok(0));
-/// assert_eq!(receiver.segment(100, b"abc").map(|it| it.queued), Ok(5));
+/// assert_eq!(receiver.keep(103, b"de").map(|it| it.queued), Ok(0));
+/// assert_eq!(receiver.keep(100, b"abc").map(|it| it.queued), Ok(5));
 /// let mut into = [0; 8];
 /// assert_eq!((receiver.read(&mut into), &into[..5]), (5, &b"abcde"[..]));
 /// ```
@@ -79,10 +80,9 @@ impl<S: Storage<u8>, const N: usize> ReceiverOver<S, N> {
         Self::over_at(storage, 0)
     }
 
-    /// Returns a receiver of a stream that begins at position `first`; nothing is read, queued or
-    /// held.
+    /// Returns a receiver of a stream that begins at position `first`; nothing has arrived.
     ///
-    /// Its capacity is the length of `storage` in bytes, of which 0 is allowed.
+    /// Its capacity is the length of `storage`, which may be 0.
     ///
     /// A program in which `N` is 0 does not compile.
     #[must_use]
@@ -95,14 +95,13 @@ impl<S: Storage<u8>, const N: usize> ReceiverOver<S, N> {
         }
     }
 
-    /// Returns the head, the storage and the runs, which represent the receiver. smoltcp has no such
-    /// call.
+    /// Returns the head, the storage and the runs, which represent the receiver. (Not in smoltcp.)
     pub(crate) fn into_parts(self) -> (ReceiverHead, S, [Run; N]) {
         let ReceiverOver { head, storage, runs } = self;
         (head, storage, runs)
     }
 
-    /// Returns the storage. Its bytes can be any.
+    /// Returns the storage. Its contents are unspecified.
     ///
     /// ```
     /// # use net_base::receiver::ReceiverOver;
@@ -116,8 +115,7 @@ impl<S: Storage<u8>, const N: usize> ReceiverOver<S, N> {
         storage
     }
 
-    /// Begins again over the same storage: a receiver of a stream that begins at position `first`;
-    /// nothing is read, queued or held.
+    /// Begins again over the same storage: a stream that begins at position `first`; nothing has arrived.
     ///
     /// ```
     /// # use net_base::receiver::Receiver;
@@ -131,11 +129,11 @@ impl<S: Storage<u8>, const N: usize> ReceiverOver<S, N> {
         self.head.reset_at(first);
     }
 
-    /// Moves what is stored to a larger storage, and returns the one from before, whose bytes can be any. What is
-    /// queued and held stays, and so do all positions. The window grows by as many bytes as the storage does.
+    /// Moves the bytes to a larger storage, and returns the old one, whose contents are unspecified. What is queued or
+    /// waits stays at its positions. The window grows by as much as the storage does.
     ///
-    /// So a receiver begins small, and a window that TCP or QUIC raises later costs memory only then. Each byte of the
-    /// storage from before is copied once. smoltcp has no such call.
+    /// So a receiver can begin small, and a window that TCP or QUIC raises later costs memory only then. Each byte of
+    /// the old storage is copied once. (Not in smoltcp.)
     ///
     /// ```
     /// # use net_base::receiver::Receiver;
@@ -175,12 +173,8 @@ impl<S: Storage<u8>, const N: usize> ReceiverOver<S, N> {
         len as u64 <= u64::MAX - pos
     }
 
-    /// Keeps the bytes of a segment that are in the free window: from `next` on, and below `next`
-    /// plus `window`. Returns how many, by how many `next` moved, and the first three held runs; `keep`
-    /// does the same, and lists no runs.
-    ///
-    /// They are written at their positions, over those held there, and all bytes that are then
-    /// contiguous from `next` on join the queue. If no byte is in the window, nothing changes.
+    /// Keeps the bytes of a segment as `keep` does, and also lists the first three waiting ranges, as TCP's SACK blocks
+    /// need them. It panics unless the segment `fits`: for bytes from a packet take `keep`, which requires nothing.
     ///
     /// ```
     /// # use net_base::receiver::Receiver;
@@ -194,9 +188,8 @@ impl<S: Storage<u8>, const N: usize> ReceiverOver<S, N> {
     ///
     /// # Errors
     ///
-    /// The segment is refused, and nothing changes, exactly if the bytes do not begin at `next` and
-    /// together with those held would make more than `N` runs. So a segment that begins at or below
-    /// `next` is never refused, and its kept bytes join the queue.
+    /// `TooManyHolesError`, and nothing changes, if the kept bytes begin above `next` and would make more than `N`
+    /// waiting ranges. So a segment that begins at or below `next` is never refused, and its kept bytes join the queue.
     ///
     /// # Panics
     ///
@@ -223,8 +216,13 @@ impl<S: Storage<u8>, const N: usize> ReceiverOver<S, N> {
         self.head.first_runs(&self.runs)
     }
 
-    /// Keeps the bytes of a segment that are in the free window, as `segment` does, and lists no runs. Any
-    /// segment may arrive: bytes from position `u64::MAX` on, which no stream has, are left out.
+    /// Keeps the bytes of a segment that are in the free window: from `next` on, and below `next` plus `window`. This
+    /// is the call for bytes from a packet: it takes any position, and requires nothing. `segment` also lists waiting
+    /// ranges.
+    ///
+    /// Waiting bytes at the same positions are overwritten. All bytes that are then contiguous from `next` on join the
+    /// queue. If no byte is in the window, nothing changes. Bytes at `u64::MAX` and above, where no stream has any, are
+    /// left out.
     ///
     /// ```
     /// # use net_base::receiver::Receiver;
@@ -236,7 +234,8 @@ impl<S: Storage<u8>, const N: usize> ReceiverOver<S, N> {
     ///
     /// # Errors
     ///
-    /// A segment is refused exactly if `segment` refuses it, and then nothing changes.
+    /// `TooManyHolesError`, and nothing changes, if the kept bytes begin above `next` and would make more than `N`
+    /// waiting ranges.
     ///
     /// # [Guarantees](crate#guarantees)
     ///
@@ -275,8 +274,8 @@ impl<S: Storage<u8>, const N: usize> ReceiverOver<S, N> {
         keep_ending(&mut self.head, after_end, storage, &mut self.runs, pos, bytes, is_last)
     }
 
-    /// Moves bytes from the head of the queue to the beginning of `into`, and returns how many: as
-    /// many as are queued and as `into` has room for. The rest of `into` stays as it is.
+    /// Moves bytes from the head of the queue to the beginning of `into`, and returns how many: all that are queued, if
+    /// `into` has room for them. The rest of `into` stays as it is.
     ///
     /// ```
     /// # use net_base::receiver::Receiver;
@@ -296,9 +295,8 @@ impl<S: Storage<u8>, const N: usize> ReceiverOver<S, N> {
         self.head.read(whole(&self.storage), into)
     }
 
-    /// Copies bytes from the head of the queue to the beginning of `into`, and returns how many:
-    /// as many as are queued and as `into` has room for. The rest of `into` stays as it is, and
-    /// the queue too: the bytes are those that a `read` would take.
+    /// Copies bytes from the head of the queue to the beginning of `into`, and returns how many, as `read` does, but
+    /// leaves them in the queue. The rest of `into` stays as it is.
     ///
     /// ```
     /// # use net_base::receiver::Receiver;
@@ -317,11 +315,10 @@ impl<S: Storage<u8>, const N: usize> ReceiverOver<S, N> {
         self.head.peek_slice(whole(&self.storage), into)
     }
 
-    /// Lends a slice of at most `size` queued bytes from `offset`, cut at the end of queue or storage.
-    /// It is empty only if `size` is 0 or the queue has no byte `offset`.
+    /// Lends at most `size` queued bytes from index `offset` of the queue on, up to the end of the queue or of the
+    /// storage. The slice is empty only if `size` is 0 or `offset` isn't below `queued`.
     ///
-    /// The stream's byte number i, counted from 0, has the index `i` modulo the capacity in the
-    /// storage, so a caller knows where a part ends. smoltcp's `peek` lends from the head on.
+    /// smoltcp's `peek` lends from the head on.
     ///
     /// ```
     /// # use net_base::receiver::Receiver;
@@ -340,10 +337,10 @@ impl<S: Storage<u8>, const N: usize> ReceiverOver<S, N> {
         self.head.peek(whole(&self.storage), offset, size)
     }
 
-    /// Shows the queue, in order, in two parts: the bytes up to the storage's end, and those from its
-    /// beginning on. The second part is empty unless the queue wraps.
+    /// Lends the queue, in order, in two parts: the bytes up to the storage's end, and those from its beginning on. The
+    /// second part is empty unless the queue wraps.
     ///
-    /// smoltcp has no such call; std's `VecDeque` has it.
+    /// (Not in smoltcp; std's `VecDeque` has it.)
     ///
     /// ```
     /// # use net_base::receiver::Receiver;
@@ -363,8 +360,8 @@ impl<S: Storage<u8>, const N: usize> ReceiverOver<S, N> {
         self.head.as_slices(whole(&self.storage))
     }
 
-    /// Calls `f` on the first part of the queue, as `as_slices` shows it, takes as many bytes off the
-    /// queue as `f` counts, and returns what `f` returned. The part is empty only if the queue is.
+    /// Calls `f` on the first part of the queue, as `as_slices` lends it, and returns what `f` returned. The first
+    /// value of that is how many bytes to take off the queue. The part is empty only if the queue is.
     ///
     /// smoltcp's `recv` lends the bytes for writing too.
     ///
@@ -379,7 +376,7 @@ impl<S: Storage<u8>, const N: usize> ReceiverOver<S, N> {
     ///
     /// # Panics
     ///
-    /// Panics unless `f` takes that part, and counts no more bytes than it is lent.
+    /// Panics unless `f` returns no more than the number of bytes it was lent.
     #[track_caller]
     pub fn read_with<R, F: FnOnce(&[u8]) -> (usize, R)>(&mut self, f: F) -> (usize, R) {
         let part = self.first_slice();
@@ -390,8 +387,8 @@ impl<S: Storage<u8>, const N: usize> ReceiverOver<S, N> {
         answer
     }
 
-    /// Takes the first `count` bytes off the queue, as `read` does, and copies none: `peek` and
-    /// `as_slices` show them before.
+    /// Takes the first `count` bytes off the queue, as `read` does, but copies none. `peek` and `as_slices` lend them
+    /// before.
     ///
     /// ```
     /// # use net_base::receiver::Receiver;
@@ -425,8 +422,7 @@ impl<S: Storage<u8>, const N: usize> ReceiverOver<S, N> {
         self.head.peek(whole(&self.storage), 0, self.head.queued())
     }
 
-    /// Returns the first missing position: the first position, plus the count of bytes read, plus
-    /// those queued.
+    /// Returns the first missing position. All bytes below it have arrived.
     ///
     /// ```
     /// # use net_base::receiver::Receiver;
@@ -440,7 +436,7 @@ impl<S: Storage<u8>, const N: usize> ReceiverOver<S, N> {
         self.head.next()
     }
 
-    /// Returns how many bytes are queued.
+    /// Returns how many bytes are queued: all that can be read.
     ///
     /// ```
     /// # use net_base::receiver::Receiver;
@@ -454,8 +450,8 @@ impl<S: Storage<u8>, const N: usize> ReceiverOver<S, N> {
         self.head.queued()
     }
 
-    /// Returns the window: how many bytes have room after the queue, held ones among them. `queued`
-    /// and `window` together are the capacity.
+    /// Returns the window: how many bytes have room after the queue, waiting ones included. `queued` and `window`
+    /// together are the capacity.
     ///
     /// ```
     /// # use net_base::receiver::Receiver;
@@ -469,8 +465,8 @@ impl<S: Storage<u8>, const N: usize> ReceiverOver<S, N> {
         self.head.window(self.storage.count())
     }
 
-    /// Returns the end of the free window, `next` plus `window`: the first position for which there
-    /// is no room. `None` if it doesn't fit 64 bits. It never falls.
+    /// Returns the end of the free window, `next` plus `window`: the first position without room. `None` if it doesn't
+    /// fit 64 bits. It never falls.
     ///
     /// ```
     /// # use net_base::receiver::Receiver;
@@ -486,7 +482,7 @@ impl<S: Storage<u8>, const N: usize> ReceiverOver<S, N> {
         self.head.window_end(self.storage.count())
     }
 
-    /// Returns how many bytes have room, queued and held ones included: the storage's length.
+    /// Returns the storage's length: how many bytes have room, queued and waiting ones included.
     ///
     /// ```
     /// # use net_base::receiver::Receiver;
@@ -498,7 +494,7 @@ impl<S: Storage<u8>, const N: usize> ReceiverOver<S, N> {
         self.storage.count()
     }
 
-    /// Returns whether no byte is queued; bytes may be held.
+    /// Returns whether no byte is queued. Bytes may wait above `next`.
     ///
     /// ```
     /// # use net_base::receiver::Receiver;
@@ -512,9 +508,9 @@ impl<S: Storage<u8>, const N: usize> ReceiverOver<S, N> {
         self.queued() == 0
     }
 
-    /// Returns the held runs as absolute (start, end), the end not included, in rising order, at
-    /// most `N`. Each begins above `next` and ends within the free window. `newest_runs` lists them in
-    /// the order of a selective acknowledgement.
+    /// Returns the waiting ranges, at most `N`, as positions (start, end), the end not included, in rising order. Each
+    /// begins above `next`, and ends within the free window. `newest_runs` lists them in the order of a selective
+    /// acknowledgement.
     ///
     /// ```
     /// # use net_base::receiver::Receiver;
@@ -528,7 +524,7 @@ impl<S: Storage<u8>, const N: usize> ReceiverOver<S, N> {
         self.head.held(&self.runs)
     }
 
-    /// Returns how many runs are held, without a look at them: as many as `held` yields, at most `N`.
+    /// Returns how many ranges wait, at most `N`, without looking at them.
     ///
     /// ```
     /// # use net_base::receiver::Receiver;
@@ -542,15 +538,15 @@ impl<S: Storage<u8>, const N: usize> ReceiverOver<S, N> {
         self.head.held_count()
     }
 
-    /// Returns at most `K` held runs, the newest first, as absolute start and end, the end not
-    /// included: the order that RFC 2018, section 4, wants of a selective acknowledgement.
+    /// Returns at most `K` waiting ranges, the newest first, as positions (start, end), the end not included: the order
+    /// that RFC 2018, section 4, wants of a selective acknowledgement.
     ///
-    /// The first is the run that has `position`, that of the segment just taken, if it is held. Then
-    /// come the runs of the starts in `recent`, in their order, and then the others, in rising order;
-    /// each comes once. The caller keeps `recent` from call to call, zeros at first.
+    /// Pass the position of the segment just kept: the range that has it comes first. Then come the ranges of the
+    /// positions in `recent`, in their order, and then the others, in rising order; each comes once. Keep `recent` from
+    /// call to call, zeros at first.
     ///
-    /// A sender that is told the first runs again and again learns late of others. smoltcp reports the
-    /// first run alone.
+    /// A sender that is told the first ranges again and again learns late of others. smoltcp reports the first range
+    /// alone.
     ///
     /// ```
     /// # use net_base::receiver::Receiver;
@@ -572,10 +568,10 @@ impl<S: Storage<u8>, const N: usize> ReceiverOver<S, N> {
         NewestRunIter::over(runs, count)
     }
 
-    /// Returns what of a segment of `len` bytes at `pos` was kept before: what is below `next`, or else the
-    /// first part that is held. `None` if all of it is new. It is asked before the segment is kept. TCP
-    /// reports such a part once, as the first block of the next acknowledgement (RFC 2883): it is below
-    /// what is acknowledged, or within a held run. smoltcp has no such call.
+    /// Returns the part of a segment of `len` bytes at `pos` that came before: what is below `next`, or else the first part
+    /// that waits. `None` if all of it is new. Ask before the segment is kept. TCP reports such a part once, as the
+    /// first block of the next acknowledgement (RFC 2883): it is below what is acknowledged, or within a waiting range.
+    /// (Not in smoltcp.)
     ///
     /// ```
     /// # use net_base::receiver::Receiver;
@@ -595,10 +591,9 @@ impl<S: Storage<u8>, const N: usize> ReceiverOver<S, N> {
         }
     }
 
-    /// Returns where the bytes of a segment of `len` bytes at `pos` are: below `next`, in the free window, or above
-    /// it. Any segment may be asked for. `keep` then keeps those in the free window, unless it refuses the
-    /// segment. It is asked before the segment is kept, by callers who refuse a peer that sends more than it was
-    /// offered room for. smoltcp has no such call.
+    /// Returns where the bytes of a segment of `len` bytes at `pos` are: below `next`, in the free window, or above it.
+    /// Ask before the segment is kept, to refuse a peer that sends more than it was offered room for. `keep` keeps
+    /// those in the free window, unless it returns an error. (Not in smoltcp.)
     ///
     /// ```
     /// # use net_base::receiver::Receiver;
@@ -633,8 +628,8 @@ impl<S: Storage<u8>, const N: usize> ReceiverOver<S, N> {
         self.head.has_all_below(&self.runs, pos)
     }
 
-    /// Returns whether first position, count of bytes read, queued bytes and held runs are equal.
-    /// The held bytes are not compared, nor are the capacities.
+    /// Returns whether first position, count of bytes read, queued bytes and waiting ranges are equal. The waiting
+    /// bytes aren't compared, nor are the capacities.
     ///
     /// Two receivers of one stream are found equal if the same number of bytes was read from both and
     /// the same positions were kept, in whatever order the segments arrived.

@@ -6,14 +6,12 @@ use crate::stream::held_runs::HeldRuns;
 use crate::stream::scoreboard_head::{ReportError, ScoreboardHead};
 use core::ops::Range;
 
-/// What a sender knows of the positions that the other end has, as acknowledgements and their SACK
-/// blocks report them: a scoreboard.
+/// Which bytes of its stream a sender knows to have arrived, from acknowledgements and their SACK blocks.
 ///
-/// Positions are absolute. At most `N` runs are stored beyond the first position that wasn't reported;
-/// what is below that needs none. No call allocates. `next_hole` gives what isn't reported, range by
-/// range. Most of it may only be in flight: what is below `lost_below` is lost. When it is sent again is
-/// the caller's choice. smoltcp has no such type: its TCP socket sends again from the first
-/// unacknowledged position on.
+/// A position is the number of a byte in its stream, 64 bits. At most `N` ranges (*runs*, in names) are stored above
+/// the first position that wasn't reported. What is missing before one is a hole, which `next_hole` returns. Most of it
+/// may only be in flight: what is below `lost_below` is lost. When it is sent again is the caller's choice. No call
+/// allocates. (Not in smoltcp, whose TCP socket sends again from the first unacknowledged position on.)
 ///
 /// ```
 /// use net_base::scoreboard::Scoreboard;
@@ -35,7 +33,7 @@ pub struct Scoreboard<const N: usize = 4> {
 }
 
 impl<const N: usize> Scoreboard<N> {
-    /// Returns a scoreboard of a stream that begins at position 0, to which nothing was reported.
+    /// Returns a scoreboard of a stream that begins at position 0, of which nothing was reported.
     ///
     /// ```
     /// # use net_base::scoreboard::Scoreboard;
@@ -54,8 +52,8 @@ impl<const N: usize> Scoreboard<N> {
         Scoreboard { head: ScoreboardHead::new(), runs: [Run { start: 0, end: 0 }; N] }
     }
 
-    /// Returns a scoreboard of a stream that begins at position `first`, to which nothing was reported.
-    /// All positions below `first` count as reported.
+    /// Returns a scoreboard of a stream that begins at position `first`, of which nothing was reported. All positions
+    /// below `first` count as reported.
     ///
     /// ```
     /// # use net_base::scoreboard::Scoreboard;
@@ -70,9 +68,9 @@ impl<const N: usize> Scoreboard<N> {
         Scoreboard { head: ScoreboardHead::new_at(first), runs: [Run { start: 0, end: 0 }; N] }
     }
 
-    /// Begins again: a stream that begins at position `first`, to which nothing was reported. All
-    /// positions below `first` count as reported. A sender that forgets what was reported, as when its timer
-    /// ends (RFC 2018, section 8), gives the first unacknowledged position.
+    /// Begins again: a stream that begins at position `first`, of which nothing was reported. All positions below
+    /// `first` count as reported. A sender that forgets what was reported, as when its timer ends (RFC 2018, section
+    /// 8), passes the first unacknowledged position.
     ///
     /// ```
     /// # use net_base::scoreboard::Scoreboard;
@@ -86,7 +84,7 @@ impl<const N: usize> Scoreboard<N> {
     }
 
     /// Reports the positions of `block`, as a SACK block of an acknowledgement does. Blocks may overlap. `sent` is the
-    /// number after the last one that was ever sent, as `FiniteSender::sent` returns it.
+    /// position after the last one that was ever sent, as `FiniteSender::sent` returns it.
     ///
     /// ```
     /// # use net_base::scoreboard::{ReportError, Scoreboard};
@@ -99,13 +97,11 @@ impl<const N: usize> Scoreboard<N> {
     ///
     /// # Errors
     ///
-    /// `NoBlock`, and nothing changes, exactly if no such block can be: if it is empty, ends above `sent`, or
-    /// begins beyond the first position that wasn't reported, and ends 2^32 or more above it: TCP's numbers
-    /// have 32 bits.
+    /// `NoBlock`, and nothing changes, if no such block can be: it is empty, ends above `sent`, or begins above the
+    /// first position that wasn't reported and ends 2^32 or more above it, while TCP's sequence numbers have 32 bits.
     ///
-    /// `TooManyHoles`, and nothing changes, exactly if such a block can be, it begins beyond the first
-    /// position that wasn't reported, and there would be more than `N` runs beyond that: then the block
-    /// isn't known, and its bytes are sent again.
+    /// Else `TooManyHoles`, and nothing changes, if the block begins above the first position that wasn't reported, and
+    /// there would be more than `N` ranges above that. Its bytes are sent again then.
     ///
     /// # [Guarantees](crate#guarantees)
     ///
@@ -114,7 +110,7 @@ impl<const N: usize> Scoreboard<N> {
         self.head.report(&mut self.runs, block.start, block.end, sent)
     }
 
-    /// Reports all positions below `next`. It is never refused.
+    /// Reports all positions below `next`. There is always room for that.
     ///
     /// ```
     /// # use net_base::scoreboard::Scoreboard;
@@ -153,8 +149,8 @@ impl<const N: usize> Scoreboard<N> {
         self.head.contains(&self.runs, pos)
     }
 
-    /// Returns the runs beyond the first position that wasn't reported, as absolute (start, end), the end
-    /// not included, in rising order, at most `N`.
+    /// Returns the ranges above the first position that wasn't reported, at most `N`, as positions (start, end), the
+    /// end not included, in rising order.
     ///
     /// ```
     /// # use net_base::scoreboard::Scoreboard;
@@ -193,10 +189,9 @@ impl<const N: usize> Scoreboard<N> {
         self.head.missing_between(&self.runs, range.start, range.end)
     }
 
-    /// Returns the next range that wasn't reported: it begins at the first position from `pos` on that wasn't, and ends
-    /// at the next one that was, or at `limit`. `None` if there is none below `limit`. Of these bytes most may only be
-    /// in flight. What is lost is below `lost_below`, as `limit`: a caller sends it, and passes its end as the next
-    /// `pos`.
+    /// Returns the next hole: it begins at the first position from `pos` on that wasn't reported, and ends at the next
+    /// one that was, or at `limit`. `None` if there is none below `limit`. Most of these bytes may only be in flight.
+    /// To get what is lost, pass `lost_below` as `limit`, and each hole's end as the next `pos`.
     ///
     /// ```
     /// # use net_base::scoreboard::Scoreboard;
@@ -215,11 +210,10 @@ impl<const N: usize> Scoreboard<N> {
         }
     }
 
-    /// Returns the position below which all that wasn't reported is lost, by the rule of RFC 6675,
-    /// section 4: from it on `duplicates` runs were reported (3 in TCP; 0 counts as 1), or more bytes than
-    /// `duplicates - 1` segments of `segment_size` bytes have. It is 0 if nothing is lost. A run counts as
-    /// above a position if it begins above it; of a position that wasn't reported that is the RFC's rule
-    /// exactly.
+    /// Returns the position below which all that wasn't reported is lost, by the rule of RFC 6675, section 4: from it
+    /// on `duplicates` ranges were reported (3 in TCP; 0 counts as 1), or more bytes than `duplicates - 1` segments of
+    /// `segment_size` bytes have. It is 0 if nothing is lost. A range counts as above a position if it begins above it,
+    /// which for a position that wasn't reported is the RFC's rule.
     ///
     /// ```
     /// # use net_base::scoreboard::Scoreboard;

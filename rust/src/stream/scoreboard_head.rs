@@ -7,7 +7,7 @@
 use crate::storage::{AssemblerHead, Run};
 use crate::stream::held_runs::HeldRunIter;
 
-/// Why a SACK block isn't taken. Nothing changes then.
+/// Why a SACK block was refused. Nothing has changed then.
 ///
 /// ```
 /// use net_base::scoreboard::{ReportError, Scoreboard};
@@ -20,10 +20,10 @@ use crate::stream::held_runs::HeldRunIter;
 #[derive(Debug, Clone, Copy, PartialEq, Eq, Hash)]
 #[non_exhaustive]
 pub enum ReportError {
-    /// No such block can be: it has no position, or one that was never sent, or it ends too far above the
-    /// first position that wasn't reported.
+    /// The block is empty, ends above what was sent, or ends too far above the first position that wasn't reported.
+    /// Ignore it.
     NoBlock,
-    /// It would make more runs than there is room for. Its bytes are sent again.
+    /// The block would make more ranges than there is room for. Ignore it: its bytes are sent again.
     TooManyHoles,
 }
 
@@ -340,8 +340,8 @@ fn is_report(first: u64, start: u64, end: u64, sent: u64) -> bool {
 impl core::fmt::Display for ReportError {
     fn fmt(&self, f: &mut core::fmt::Formatter<'_>) -> core::fmt::Result {
         f.write_str(match self {
-            ReportError::NoBlock => "the block isn't of what was sent",
-            ReportError::TooManyHoles => "too many holes",
+            ReportError::NoBlock => "the block isn't of what was sent: ignore it",
+            ReportError::TooManyHoles => "too many holes: ignore the block",
         })
     }
 }

@@ -1,7 +1,7 @@
 // Written by tools/erase.py from crates/net_receiver/src/segment_bytes.rt: a change here would be lost.
 //! The bytes of a range of a stream, wherever the storage ends.
 
-/// The bytes of a segment, in two parts: the storage may end between them.
+/// The bytes of a segment, in two parts, since the storage may end between them.
 ///
 /// ```
 /// use net_base::finite::FiniteSender;

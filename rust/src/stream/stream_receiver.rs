@@ -15,9 +15,10 @@ use core::mem::replace;
 
 /// A [`StreamReceiver`] over any storages.
 ///
-/// It is a `FiniteReceiver` whose held runs are in storage too. So how many may be held is a number at run time. `grow`
-/// and `grow_runs` move bytes and runs to larger storages as they are needed. A stream of QUIC has a window of many
-/// packets, each of which may be lost, and mostly has all bytes in order. smoltcp has no such type.
+/// It is a `FiniteReceiver` that can grow: its waiting ranges (*runs*, or *held*, in names) are in storage too, and not
+/// in an array. `grow` and `grow_runs` move bytes and ranges to larger storages as they are needed. A QUIC stream may
+/// have a window of many packets, but mostly all its bytes arrive in order. A position is the number of a byte in its
+/// stream, 64 bits. No call allocates. (Not in smoltcp.)
 #[derive(Clone)]
 pub struct StreamReceiverOver<S: Storage<u8>, R: Storage<Run>> {
     // Invariant: head, bytes and runs are sound, as `FiniteReceiverHead::is_sound` tests.
@@ -26,7 +27,7 @@ pub struct StreamReceiverOver<S: Storage<u8>, R: Storage<Run>> {
     runs: R,
 }
 
-/// A receiver of a stream that ends, over bytes and runs that are lent or owned. Its calls are those of
+/// A receiver of a stream that ends, over storages that are lent or owned. Its calls are those of
 /// [`StreamReceiverOver`].
 ///
 /// ```
@@ -46,8 +47,8 @@ pub type StreamReceiver<'a> = StreamReceiverOver<ManagedSlice<'a, u8>, ManagedSl
 impl<S: Storage<u8>, R: Storage<Run>> StreamReceiverOver<S, R> {
     /// Returns a receiver of a stream that begins at position `first`; nothing has arrived.
     ///
-    /// Its capacity is the length of `storage`, and it can hold as many runs as `runs` has elements. Both may be 0:
-    /// without runs it takes what comes in order.
+    /// Its capacity is the length of `storage`. `runs` has an element for each waiting range; without any, only what
+    /// comes in order is taken.
     ///
     /// ```
     /// # use net_base::finite::StreamReceiverOver;
@@ -58,7 +59,7 @@ impl<S: Storage<u8>, R: Storage<Run>> StreamReceiverOver<S, R> {
     ///
     /// # Panics
     ///
-    /// Panics unless `first` is below `u64::MAX`: an end there would have no number after it.
+    /// Panics unless `first` is below `u64::MAX`: no stream can end there.
     #[must_use]
     #[track_caller]
     pub const fn over_at(storage: S, runs: R, first: u64) -> Self {
@@ -66,7 +67,7 @@ impl<S: Storage<u8>, R: Storage<Run>> StreamReceiverOver<S, R> {
         StreamReceiverOver { head: FiniteReceiverHead::new(first), storage, runs }
     }
 
-    /// Returns both storages. What is in them can be any.
+    /// Returns both storages. Their contents are unspecified.
     ///
     /// ```
     /// # use net_base::finite::StreamReceiverOver;
@@ -94,14 +95,14 @@ impl<S: Storage<u8>, R: Storage<Run>> StreamReceiverOver<S, R> {
     ///
     /// # Panics
     ///
-    /// Panics unless `first` is below `u64::MAX`: an end there would have no number after it.
+    /// Panics unless `first` is below `u64::MAX`: no stream can end there.
     #[track_caller]
     pub fn reset_at(&mut self, first: u64) {
         assert!(first < u64::MAX, "no number is left for an end");
         self.head = FiniteReceiverHead::new(first);
     }
 
-    /// Moves what is stored to a larger storage, and returns the one from before, as `Receiver::grow` does.
+    /// Moves the bytes to a larger storage, and returns the old one, as `Receiver::grow` does.
     ///
     /// ```
     /// # use net_base::finite::StreamReceiver;
@@ -124,7 +125,7 @@ impl<S: Storage<u8>, R: Storage<Run>> StreamReceiverOver<S, R> {
         replace(&mut self.storage, larger)
     }
 
-    /// Moves the held runs to a larger storage, and returns the one from before, whose runs can be any.
+    /// Moves the waiting ranges to a larger storage, and returns the old one, whose contents are unspecified.
     ///
     /// ```
     /// # use net_base::finite::StreamReceiver;
@@ -147,8 +148,8 @@ impl<S: Storage<u8>, R: Storage<Run>> StreamReceiverOver<S, R> {
         replace(&mut self.runs, more)
     }
 
-    /// Keeps the bytes of a segment that are in the free window and below the end, as `FiniteReceiver::keep` does: the
-    /// others are left out without an error. An end in order is taken even if another end was known. A QUIC stream has
+    /// Keeps the bytes of a segment that are in the free window and below the end, as `FiniteReceiver::keep` does.
+    /// Others are left out without an error. A FIN in order is taken even if another end was known. A QUIC stream has
     /// one final size, so ask `can_end` before you pass a FIN.
     ///
     /// ```
@@ -162,8 +163,8 @@ impl<S: Storage<u8>, R: Storage<Run>> StreamReceiverOver<S, R> {
     ///
     /// # Errors
     ///
-    /// `OtherEnd` if the segment isn't in order, and says that the stream ends where it can't (`can_end`); else
-    /// `TooManyHoles` if its bytes would make too many runs. Then nothing changes.
+    /// `OtherEnd` if the segment isn't in order, and says that the stream ends where it can't (`can_end`). Else
+    /// `TooManyHoles` if its bytes would make too many waiting ranges. Nothing changes then.
     pub fn keep(&mut self, pos: u64, bytes: &[u8], fin: bool) -> Result<KeptBytes, FiniteError> {
         let count = self.storage.count();
         let storage = self.storage.part_mut(0, count);
@@ -172,8 +173,8 @@ impl<S: Storage<u8>, R: Storage<Run>> StreamReceiverOver<S, R> {
         self.head.keep(storage, runs, pos, bytes, fin)
     }
 
-    /// Moves bytes from the head of the queue to the beginning of `into`, and returns how many: as many as are queued
-    /// and as `into` has room for. The rest of `into` stays as it is.
+    /// Moves bytes from the head of the queue to the beginning of `into`, and returns how many: all that are queued, if
+    /// `into` has room for them. The rest of `into` stays as it is.
     ///
     /// ```
     /// # use net_base::finite::StreamReceiver;
@@ -187,7 +188,7 @@ impl<S: Storage<u8>, R: Storage<Run>> StreamReceiverOver<S, R> {
         self.head.read(whole(&self.storage), into)
     }
 
-    /// Takes the first `count` bytes off the queue, as `read` does, and copies none.
+    /// Takes the first `count` bytes off the queue, as `read` does, but copies none.
     ///
     /// ```
     /// # use net_base::finite::StreamReceiver;
@@ -207,7 +208,7 @@ impl<S: Storage<u8>, R: Storage<Run>> StreamReceiverOver<S, R> {
         self.head.remove(self.storage.count(), count);
     }
 
-    /// Shows the queue, in order, in two parts. The second is empty unless the queue wraps at the storage's end.
+    /// Lends the queue, in order, in two parts. The second is empty unless the queue wraps at the storage's end.
     ///
     /// ```
     /// # use net_base::finite::StreamReceiver;
@@ -235,7 +236,7 @@ impl<S: Storage<u8>, R: Storage<Run>> StreamReceiverOver<S, R> {
         self.head.can_end(every(&self.runs), pos)
     }
 
-    /// Returns the position after the last byte, once it is known.
+    /// Returns the stream's end, QUIC's final size: the position after the last byte. `None` while it isn't known.
     ///
     /// ```
     /// # use net_base::finite::StreamReceiver;
@@ -290,7 +291,7 @@ impl<S: Storage<u8>, R: Storage<Run>> StreamReceiverOver<S, R> {
         self.head.receiver.next()
     }
 
-    /// Returns how many bytes are queued.
+    /// Returns how many bytes are queued: all that can be read.
     ///
     /// ```
     /// # use net_base::finite::StreamReceiver;
@@ -303,7 +304,7 @@ impl<S: Storage<u8>, R: Storage<Run>> StreamReceiverOver<S, R> {
         self.head.receiver.queued()
     }
 
-    /// Returns the window: how many bytes have room after the queue, held ones among them.
+    /// Returns the window: how many bytes have room after the queue, waiting ones included.
     ///
     /// ```
     /// # use net_base::finite::StreamReceiver;
@@ -316,8 +317,8 @@ impl<S: Storage<u8>, R: Storage<Run>> StreamReceiverOver<S, R> {
         self.head.receiver.window(self.storage.count())
     }
 
-    /// Returns the end of the free window, `next` plus `window`: the first position for which there is no room, which a
-    /// peer may be told. `None` if it doesn't fit 64 bits. It never falls.
+    /// Returns the end of the free window, `next` plus `window`: the first position without room, which a peer may be
+    /// told. `None` if it doesn't fit 64 bits. It never falls.
     ///
     /// ```
     /// # use net_base::finite::StreamReceiver;
@@ -331,7 +332,7 @@ impl<S: Storage<u8>, R: Storage<Run>> StreamReceiverOver<S, R> {
         self.head.receiver.window_end(self.storage.count())
     }
 
-    /// Returns the held runs as absolute (start, end), the end not included, in rising order.
+    /// Returns the waiting ranges as positions (start, end), the end not included, in rising order.
     ///
     /// ```
     /// # use net_base::finite::StreamReceiver;
@@ -345,9 +346,8 @@ impl<S: Storage<u8>, R: Storage<Run>> StreamReceiverOver<S, R> {
         self.head.receiver.held(every(&self.runs))
     }
 
-    /// Returns where the bytes of a segment of `len` bytes at `pos` are, as `FiniteReceiver::parts_of` does. A
-    /// receiver of QUIC asks before it keeps a frame: bytes `beyond` the free window, or `past_end`, are its peer's
-    /// error.
+    /// Returns where the bytes of a segment of `len` bytes at `pos` are, as `FiniteReceiver::parts_of` does. A QUIC
+    /// receiver asks before it keeps a frame: bytes `beyond` the free window, or `past_end`, are an error of its peer.
     ///
     /// ```
     /// # use net_base::finite::StreamReceiver;
@@ -366,7 +366,7 @@ impl<S: Storage<u8>, R: Storage<Run>> StreamReceiverOver<S, R> {
         }
     }
 
-    /// Returns how many bytes have room, queued and held ones included: the storage's length.
+    /// Returns the storage's length: how many bytes have room, queued and waiting ones included.
     ///
     /// ```
     /// # use net_base::finite::StreamReceiver;
@@ -378,7 +378,7 @@ impl<S: Storage<u8>, R: Storage<Run>> StreamReceiverOver<S, R> {
         self.storage.count()
     }
 
-    /// Returns how many runs can be held.
+    /// Returns how many ranges can wait.
     ///
     /// ```
     /// # use net_base::finite::StreamReceiver;

@@ -11,7 +11,7 @@ use core::ops::{
 /// A length of time, in microseconds. By default it is zero. It serves for timeouts, and for the
 /// distance between two moments.
 ///
-/// It has 0 to 2^64 - 1 microseconds. Quotients are cut to whole numbers.
+/// It has 0 to 2^64 - 1 microseconds. Quotients are rounded down.
 ///
 /// ```
 /// use net_base::time::Duration;
@@ -53,7 +53,7 @@ impl Duration {
         Duration { micros }
     }
 
-    /// Returns whether the value fits; precondition of `from_millis`.
+    /// Returns whether the microseconds fit a `u64`. If they don't, `from_millis` panics.
     ///
     /// ```
     /// # use net_base::time::Duration;
@@ -75,7 +75,7 @@ impl Duration {
     ///
     /// # Panics
     ///
-    /// Panics unless the microseconds fit 64 bits, as `fits_millis` tests.
+    /// Panics unless the microseconds fit a `u64`, as `fits_millis` tests.
     #[inline]
     #[track_caller]
     #[must_use]
@@ -84,7 +84,7 @@ impl Duration {
         Duration { micros: millis * 1_000 }
     }
 
-    /// Returns whether the value fits; precondition of `from_secs`.
+    /// Returns whether the microseconds fit a `u64`. If they don't, `from_secs` panics.
     ///
     /// ```
     /// # use net_base::time::Duration;
@@ -106,7 +106,7 @@ impl Duration {
     ///
     /// # Panics
     ///
-    /// Panics unless the microseconds fit 64 bits, as `fits_secs` tests.
+    /// Panics unless the microseconds fit a `u64`, as `fits_secs` tests.
     #[inline]
     #[track_caller]
     #[must_use]
@@ -175,7 +175,7 @@ impl Duration {
         self.micros
     }
 
-    /// Returns whether a value of `core` fits: its whole microseconds are below 2^64.
+    /// Returns whether the whole microseconds of a duration of `core` fit a `u64`.
     ///
     /// ```
     /// # use net_base::time::Duration;
@@ -191,7 +191,7 @@ impl Duration {
     ///
     /// # Requires
     ///
-    /// So many microseconds fit 64 bits, as `fits_core` tests.
+    /// The microseconds fit a `u64`, as `fits_core` tests.
     #[track_caller]
     #[must_use]
     pub(crate) fn from_core(duration: core::time::Duration) -> Duration {
@@ -199,7 +199,7 @@ impl Duration {
         Duration { micros: duration.as_micros() as u64 }
     }
 
-    /// Returns whether the sum fits; precondition of `+` and `+=`.
+    /// Returns whether the sum is at most [`Duration::MAX`]. If it isn't, `+` and `+=` panic.
     ///
     /// ```
     /// # use net_base::time::Duration;
@@ -211,7 +211,7 @@ impl Duration {
         self.micros.checked_add(duration.micros).is_some()
     }
 
-    /// Returns whether the difference isn't below 0; precondition of `-` and `-=`.
+    /// Returns whether the difference is at least 0. If it isn't, `-` and `-=` panic.
     ///
     /// ```
     /// # use net_base::time::Duration;
@@ -224,7 +224,7 @@ impl Duration {
         duration.micros <= self.micros
     }
 
-    /// Returns whether the product fits; precondition of `*` and `*=`.
+    /// Returns whether the product is at most [`Duration::MAX`]. If it isn't, `*` and `*=` panic.
     ///
     /// ```
     /// # use net_base::time::Duration;
@@ -236,7 +236,7 @@ impl Duration {
         self.micros.checked_mul(u64::from(factor)).is_some()
     }
 
-    /// Returns the sum, or `None` exactly if it is above the greatest length.
+    /// Returns the sum, or `None` if it is above the greatest length.
     ///
     /// ```
     /// # use net_base::time::Duration;
@@ -247,7 +247,7 @@ impl Duration {
         self.micros.checked_add(rhs.micros).map(Duration::from_micros)
     }
 
-    /// Returns the difference, or `None` exactly if `rhs` is the longer one.
+    /// Returns the difference, or `None` if `rhs` is the longer one.
     ///
     /// ```
     /// # use net_base::time::Duration;
@@ -258,7 +258,7 @@ impl Duration {
         self.micros.checked_sub(rhs.micros).map(Duration::from_micros)
     }
 
-    /// Returns the product, or `None` exactly if it is above the greatest length.
+    /// Returns the product, or `None` if it is above the greatest length.
     ///
     /// ```
     /// # use net_base::time::Duration;
@@ -269,7 +269,7 @@ impl Duration {
         self.micros.checked_mul(u64::from(rhs)).map(Duration::from_micros)
     }
 
-    /// Returns the quotient, or `None` exactly if the divisor is 0.
+    /// Returns the quotient, or `None` if the divisor is 0.
     ///
     /// ```
     /// # use net_base::time::Duration;
@@ -340,7 +340,7 @@ impl fmt::Display for Duration {
     }
 }
 
-/// Returns the sum. `can_add` tells whether it is a length.
+/// Returns the sum. It panics if that is above [`Duration::MAX`], as `can_add` tests.
 impl Add for Duration {
     type Output = Duration;
 
@@ -352,7 +352,7 @@ impl Add for Duration {
     }
 }
 
-/// Adds a length. `can_add` tells whether the sum is one.
+/// Adds a length. It panics if the sum is above [`Duration::MAX`], as `can_add` tests.
 impl AddAssign for Duration {
     #[inline]
     #[track_caller]
@@ -362,7 +362,7 @@ impl AddAssign for Duration {
     }
 }
 
-/// Returns the difference. `can_sub` tells whether it is a length.
+/// Returns the difference. It panics if that is below 0, as `can_sub` tests.
 impl Sub for Duration {
     type Output = Duration;
 
@@ -374,7 +374,7 @@ impl Sub for Duration {
     }
 }
 
-/// Subtracts a length. `can_sub` tells whether the difference is one.
+/// Subtracts a length. It panics if the difference is below 0, as `can_sub` tests.
 impl SubAssign for Duration {
     #[inline]
     #[track_caller]
@@ -384,7 +384,7 @@ impl SubAssign for Duration {
     }
 }
 
-/// Returns the product. `can_mul` tells whether it is a length.
+/// Returns the product. It panics if that is above [`Duration::MAX`], as `can_mul` tests.
 impl Mul<u32> for Duration {
     type Output = Duration;
 
@@ -396,7 +396,7 @@ impl Mul<u32> for Duration {
     }
 }
 
-/// Multiplies the length. `can_mul` tells whether the product is one.
+/// Multiplies the length. It panics if the product is above [`Duration::MAX`], as `can_mul` tests.
 impl MulAssign<u32> for Duration {
     #[inline]
     #[track_caller]
@@ -406,7 +406,7 @@ impl MulAssign<u32> for Duration {
     }
 }
 
-/// Returns the quotient. The divisor must not be 0.
+/// Returns the quotient. It panics if the divisor is 0.
 impl Div<u32> for Duration {
     type Output = Duration;
 
@@ -418,7 +418,7 @@ impl Div<u32> for Duration {
     }
 }
 
-/// Divides the length. The divisor must not be 0.
+/// Divides the length. It panics if the divisor is 0.
 impl DivAssign<u32> for Duration {
     #[inline]
     #[track_caller]
@@ -428,7 +428,7 @@ impl DivAssign<u32> for Duration {
     }
 }
 
-/// Returns the low 64 bits of the microseconds, shifted left. The shift must be below 64.
+/// Returns the low 64 bits of the microseconds, shifted left. It panics if the shift is above 63.
 impl Shl<u32> for Duration {
     type Output = Duration;
 
@@ -440,7 +440,7 @@ impl Shl<u32> for Duration {
     }
 }
 
-/// Shifts the microseconds left, and keeps the low 64 bits. The shift must be below 64.
+/// Shifts the microseconds left, and keeps the low 64 bits. It panics if the shift is above 63.
 impl ShlAssign<u32> for Duration {
     #[inline]
     #[track_caller]
@@ -450,7 +450,7 @@ impl ShlAssign<u32> for Duration {
     }
 }
 
-/// Returns the microseconds, shifted right. The shift must be below 64.
+/// Returns the microseconds, shifted right. It panics if the shift is above 63.
 impl Shr<u32> for Duration {
     type Output = Duration;
 
@@ -462,7 +462,7 @@ impl Shr<u32> for Duration {
     }
 }
 
-/// Shifts the microseconds right. The shift must be below 64.
+/// Shifts the microseconds right. It panics if the shift is above 63.
 impl ShrAssign<u32> for Duration {
     #[inline]
     #[track_caller]

@@ -6,11 +6,10 @@ use crate::time::{Duration, LONGEST_TEXT};
 use core::fmt::{self, Write};
 use core::ops::{Add, AddAssign, Sub, SubAssign};
 
-/// A moment, in microseconds since an origin of the user's own, such as the start of the system. A
-/// moment below zero is before the origin. With it a caller says what time it is, in timeouts and
-/// to a device that it polls.
+/// A moment, in microseconds since an origin that you choose, such as the start of the system. A
+/// negative one is before the origin. Calls that need to know the time take it as an argument.
 ///
-/// It has -2^63 to 2^63 - 1 microseconds. Quotients are cut towards zero.
+/// It has -2^63 to 2^63 - 1 microseconds. Quotients are rounded towards zero.
 ///
 /// ```
 /// use net_base::time::{Duration, Instant};
@@ -46,7 +45,7 @@ impl Instant {
         Instant { micros }
     }
 
-    /// Returns whether the value fits; precondition of `from_millis`.
+    /// Returns whether the microseconds fit an `i64`. If they don't, `from_millis` panics.
     ///
     /// ```
     /// # use net_base::time::Instant;
@@ -69,7 +68,7 @@ impl Instant {
     ///
     /// # Panics
     ///
-    /// Panics unless so many microseconds fit 64 bits with a sign, as `fits_millis` tests.
+    /// Panics unless the microseconds fit an `i64`, as `fits_millis` tests.
     #[inline]
     #[track_caller]
     #[must_use]
@@ -78,7 +77,7 @@ impl Instant {
         Instant { micros: millis * 1_000 }
     }
 
-    /// Returns whether the value fits; precondition of `from_secs`.
+    /// Returns whether the microseconds fit an `i64`. If they don't, `from_secs` panics.
     ///
     /// ```
     /// # use net_base::time::Instant;
@@ -91,7 +90,7 @@ impl Instant {
         matches!(secs.checked_mul(1_000_000), Some(_))
     }
 
-    /// Returns the same as `from_secs`, in a constant too. smoltcp has no such call.
+    /// Returns the same as `from_secs`, in a constant too. (Not in smoltcp.)
     ///
     /// ```
     /// # use net_base::time::Instant;
@@ -101,7 +100,7 @@ impl Instant {
     ///
     /// # Panics
     ///
-    /// Panics unless so many microseconds fit 64 bits with a sign, as `fits_secs` tests.
+    /// Panics unless the microseconds fit an `i64`, as `fits_secs` tests.
     #[inline]
     #[track_caller]
     #[must_use]
@@ -170,7 +169,7 @@ impl Instant {
         self.micros
     }
 
-    /// Returns whether the sum fits: whether `+` and `+=` don't saturate.
+    /// Returns whether the sum is a moment. If it isn't, `+` and `+=` saturate.
     ///
     /// ```
     /// # use net_base::time::{Duration, Instant};
@@ -183,7 +182,7 @@ impl Instant {
         self.checked_add(duration).is_some()
     }
 
-    /// Returns whether the difference fits: whether `-` and `-=` don't saturate.
+    /// Returns whether the difference is a moment. If it isn't, `-` and `-=` saturate.
     ///
     /// ```
     /// # use net_base::time::{Duration, Instant};
@@ -196,7 +195,7 @@ impl Instant {
         self.checked_sub(duration).is_some()
     }
 
-    /// Returns `self + duration`, or `None` exactly if that is after the last moment.
+    /// Returns `self + duration`, or `None` if that is after the last moment.
     ///
     /// ```
     /// # use net_base::time::{Duration, Instant};
@@ -209,7 +208,7 @@ impl Instant {
         self.micros.checked_add_unsigned(duration.total_micros()).map(|micros| Instant { micros })
     }
 
-    /// Returns `self - duration`, or `None` exactly if that is before the first moment.
+    /// Returns `self - duration`, or `None` if that is before the first moment.
     ///
     /// ```
     /// # use net_base::time::{Duration, Instant};
@@ -298,8 +297,8 @@ impl fmt::Display for Instant {
     }
 }
 
-/// Returns the moment `rhs` later, or the last moment if that is after it; `can_add` tells. smoltcp casts
-/// the length to a signed number: it panics, wraps, or goes back.
+/// Returns the moment `rhs` later, or the last moment if that is after it, as `can_add` tests.
+/// smoltcp casts the length to a signed number: it panics, wraps, or goes back.
 impl Add<Duration> for Instant {
     type Output = Instant;
 
@@ -317,7 +316,7 @@ impl AddAssign<Duration> for Instant {
     }
 }
 
-/// Returns the moment `rhs` earlier, or the first moment if that is before it; `can_sub` tells.
+/// Returns the moment `rhs` earlier, or the first moment if that is before it, as `can_sub` tests.
 impl Sub<Duration> for Instant {
     type Output = Instant;
 

@@ -43,7 +43,7 @@ impl PartsSum {
         PartsSum { sum: 0, odd: false }
     }
 
-    /// Adds the bytes that follow those which were added.
+    /// Adds the bytes of the next part.
     ///
     /// ```
     /// # use net_base::checksum::PartsSum;
@@ -59,7 +59,7 @@ impl PartsSum {
         *self = self.with(part);
     }
 
-    /// Returns the sum of the bytes that were added and of those that follow them.
+    /// Returns the sum with the bytes of the next part added.
     ///
     /// ```
     /// # use net_base::checksum::{checksum, PartsSum};
@@ -81,8 +81,8 @@ impl PartsSum {
         }
     }
 
-    /// Returns the sum of the bytes that were added and of the two bytes of a word that follow them, the
-    /// high one first: what `with(&word.to_be_bytes())` returns, as of a word of a pseudo-header.
+    /// Returns the sum with the two bytes of a word added, such as one of a pseudo-header. It is
+    /// the same as `with(&word.to_be_bytes())`.
     ///
     /// ```
     /// # use net_base::checksum::PartsSum;
@@ -102,9 +102,10 @@ impl PartsSum {
         }
     }
 
-    /// Returns the checksum of the bytes that were added. It is a number: in a message its high byte comes
-    /// first. UDP sends 65535 in place of 0, which says there that there is none (RFC 768): a message with either is
-    /// valid.
+    /// Returns the checksum of the bytes that were added. In a message its high byte comes first.
+    ///
+    /// UDP sends 65535 in place of 0, since there 0 means that there is no checksum (RFC 768). A
+    /// message with either is valid.
     ///
     /// ```
     /// # use net_base::checksum::PartsSum;
@@ -121,7 +122,7 @@ impl PartsSum {
     }
 
     /// Returns whether the bytes that were added, with a checksum among them at an even offset, are
-    /// valid. No bytes are not.
+    /// valid. If none were added, they aren't.
     ///
     /// ```
     /// # use net_base::checksum::PartsSum;
@@ -165,9 +166,9 @@ pub fn is_valid(bytes: &[u8]) -> bool
     turned(sum_words(0, bytes)) == u16::MAX
 }
 
-/// Returns the checksum of a message in which the word `old`, at an even offset, became `new`, from
-/// its checksum before (RFC 1624, equation 3); of one that is all zeros then, 0 in place of 65535.
-/// Checksums and words are numbers: in a message the high byte comes first.
+/// Returns the new checksum of a message in which the word `old`, at an even offset, became `new`
+/// (RFC 1624, equation 3). `checksum` is the one before. If the message is all zeros now, the
+/// result is 0 in place of 65535. In a message the high byte of checksums and words comes first.
 ///
 /// ```
 /// # use net_base::checksum::{checksum, updated_checksum};

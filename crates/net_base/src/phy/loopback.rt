@@ -83,8 +83,7 @@ impl<A: Allocator + Copy> Device for Loopback<A> {
 
     ghost sent = { λ old frame new. new ≡ record old { frames = old.frames ++ frame ∷ [] } };
 
-    /// Takes the first frame off the device. `None` exactly if it has none. The timestamp is
-    /// not read.
+    /// Takes the first frame off the device. `None` if it has none. The timestamp is not read.
     fn receive(&mut self, _timestamp: Instant) -> Option<(RxToken<A>, TxToken)>
         ensures { MatchOption result ((self.old.frames ≡ []) × (self.new ≡ self.old))
             (λ tokens. self.old ≡ record self.new { frames = tokens.0 ∷ self.new.frames }) }

@@ -14,7 +14,7 @@ use std::ops::{
 /// A length of time, in microseconds. By default it is zero. It serves for timeouts, and for the
 /// distance between two moments.
 ///
-/// It has 0 to 2^64 - 1 microseconds. Quotients are cut to whole numbers.
+/// It has 0 to 2^64 - 1 microseconds. Quotients are rounded down.
 ///
 /// ```
 /// use net_base::time::Duration;
@@ -69,7 +69,7 @@ impl Duration {
         Duration { micros }
     }
 
-    /// Returns whether the value fits; precondition of `from_millis`.
+    /// Returns whether the microseconds fit a `u64`. If they don't, `from_millis` panics.
     ///
     /// ```
     /// # use net_base::time::Duration;
@@ -92,7 +92,7 @@ impl Duration {
     ///
     /// # Requires
     ///
-    /// The microseconds fit 64 bits, as `fits_millis` tests.
+    /// The microseconds fit a `u64`, as `fits_millis` tests.
     #[inline]
     #[track_caller]
     #[must_use]
@@ -109,7 +109,7 @@ impl Duration {
         }
     }
 
-    /// Returns whether the value fits; precondition of `from_secs`.
+    /// Returns whether the microseconds fit a `u64`. If they don't, `from_secs` panics.
     ///
     /// ```
     /// # use net_base::time::Duration;
@@ -132,7 +132,7 @@ impl Duration {
     ///
     /// # Requires
     ///
-    /// The microseconds fit 64 bits, as `fits_secs` tests.
+    /// The microseconds fit a `u64`, as `fits_secs` tests.
     #[inline]
     #[track_caller]
     #[must_use]
@@ -216,7 +216,7 @@ impl Duration {
         self.micros
     }
 
-    /// Returns whether a value of `core` fits: its whole microseconds are below 2^64.
+    /// Returns whether the whole microseconds of a duration of `core` fit a `u64`.
     ///
     /// ```
     /// # use net_base::time::Duration;
@@ -240,7 +240,7 @@ impl Duration {
     ///
     /// # Requires
     ///
-    /// So many microseconds fit 64 bits, as `fits_core` tests.
+    /// The microseconds fit a `u64`, as `fits_core` tests.
     #[track_caller]
     #[must_use]
     pub fn from_core(duration: std::time::Duration) -> Duration
@@ -256,7 +256,7 @@ impl Duration {
         }
     }
 
-    /// Returns whether the sum fits; precondition of `+` and `+=`.
+    /// Returns whether the sum is at most [`Duration::MAX`]. If it isn't, `+` and `+=` panic.
     ///
     /// ```
     /// # use net_base::time::Duration;
@@ -270,7 +270,7 @@ impl Duration {
         self.micros.checked_add(duration.micros).is_some()
     }
 
-    /// Returns whether the difference isn't below 0; precondition of `-` and `-=`.
+    /// Returns whether the difference is at least 0. If it isn't, `-` and `-=` panic.
     ///
     /// ```
     /// # use net_base::time::Duration;
@@ -285,7 +285,7 @@ impl Duration {
         duration.micros <= self.micros
     }
 
-    /// Returns whether the product fits; precondition of `*` and `*=`.
+    /// Returns whether the product is at most [`Duration::MAX`]. If it isn't, `*` and `*=` panic.
     ///
     /// ```
     /// # use net_base::time::Duration;
@@ -299,7 +299,7 @@ impl Duration {
         self.micros.checked_mul(u64::from(factor)).is_some()
     }
 
-    /// Returns the sum, or `None` exactly if it is above the greatest length.
+    /// Returns the sum, or `None` if it is above the greatest length.
     ///
     /// ```
     /// # use net_base::time::Duration;
@@ -314,7 +314,7 @@ impl Duration {
             .map(Duration::from_micros)
     }
 
-    /// Returns the difference, or `None` exactly if `rhs` is the longer one.
+    /// Returns the difference, or `None` if `rhs` is the longer one.
     ///
     /// ```
     /// # use net_base::time::Duration;
@@ -329,7 +329,7 @@ impl Duration {
             .map(Duration::from_micros)
     }
 
-    /// Returns the product, or `None` exactly if it is above the greatest length.
+    /// Returns the product, or `None` if it is above the greatest length.
     ///
     /// ```
     /// # use net_base::time::Duration;
@@ -344,7 +344,7 @@ impl Duration {
             .map(Duration::from_micros)
     }
 
-    /// Returns the quotient, or `None` exactly if the divisor is 0.
+    /// Returns the quotient, or `None` if the divisor is 0.
     ///
     /// ```
     /// # use net_base::time::Duration;
@@ -431,7 +431,7 @@ impl fmt::Display for Duration {
     }
 }
 
-/// Returns the sum. `can_add` tells whether it is a length.
+/// Returns the sum. It panics if that is above [`Duration::MAX`], as `can_add` tests.
 impl Add for Duration {
     type Output = Duration;
 
@@ -449,7 +449,7 @@ impl Add for Duration {
     }
 }
 
-/// Adds a length. `can_add` tells whether the sum is one.
+/// Adds a length. It panics if the sum is above [`Duration::MAX`], as `can_add` tests.
 impl AddAssign for Duration {
     ghost can_add_assign = { λ d e. IsLength (d + e) };
 
@@ -463,7 +463,7 @@ impl AddAssign for Duration {
     }
 }
 
-/// Returns the difference. `can_sub` tells whether it is a length.
+/// Returns the difference. It panics if that is below 0, as `can_sub` tests.
 impl Sub for Duration {
     type Output = Duration;
 
@@ -481,7 +481,7 @@ impl Sub for Duration {
     }
 }
 
-/// Subtracts a length. `can_sub` tells whether the difference is one.
+/// Subtracts a length. It panics if the difference is below 0, as `can_sub` tests.
 impl SubAssign for Duration {
     ghost can_sub_assign = { λ d e. e ≤ d };
 
@@ -495,7 +495,7 @@ impl SubAssign for Duration {
     }
 }
 
-/// Returns the product. `can_mul` tells whether it is a length.
+/// Returns the product. It panics if that is above [`Duration::MAX`], as `can_mul` tests.
 impl Mul<u32> for Duration {
     type Output = Duration;
 
@@ -513,7 +513,7 @@ impl Mul<u32> for Duration {
     }
 }
 
-/// Multiplies the length. `can_mul` tells whether the product is one.
+/// Multiplies the length. It panics if the product is above [`Duration::MAX`], as `can_mul` tests.
 impl MulAssign<u32> for Duration {
     ghost can_mul_assign = { λ d k. IsLength (d * k) };
 
@@ -527,7 +527,7 @@ impl MulAssign<u32> for Duration {
     }
 }
 
-/// Returns the quotient. The divisor must not be 0.
+/// Returns the quotient. It panics if the divisor is 0.
 impl Div<u32> for Duration {
     type Output = Duration;
 
@@ -545,7 +545,7 @@ impl Div<u32> for Duration {
     }
 }
 
-/// Divides the length. The divisor must not be 0.
+/// Divides the length. It panics if the divisor is 0.
 impl DivAssign<u32> for Duration {
     ghost can_div_assign = { λ _ k. 0 < k };
 
@@ -559,7 +559,7 @@ impl DivAssign<u32> for Duration {
     }
 }
 
-/// Returns the low 64 bits of the microseconds, shifted left. The shift must be below 64.
+/// Returns the low 64 bits of the microseconds, shifted left. It panics if the shift is above 63.
 impl Shl<u32> for Duration {
     type Output = Duration;
 
@@ -577,7 +577,7 @@ impl Shl<u32> for Duration {
     }
 }
 
-/// Shifts the microseconds left, and keeps the low 64 bits. The shift must be below 64.
+/// Shifts the microseconds left, and keeps the low 64 bits. It panics if the shift is above 63.
 impl ShlAssign<u32> for Duration {
     ghost can_shl_assign = { λ _ k. k < 64 };
 
@@ -591,7 +591,7 @@ impl ShlAssign<u32> for Duration {
     }
 }
 
-/// Returns the microseconds, shifted right. The shift must be below 64.
+/// Returns the microseconds, shifted right. It panics if the shift is above 63.
 impl Shr<u32> for Duration {
     type Output = Duration;
 
@@ -609,7 +609,7 @@ impl Shr<u32> for Duration {
     }
 }
 
-/// Shifts the microseconds right. The shift must be below 64.
+/// Shifts the microseconds right. It panics if the shift is above 63.
 impl ShrAssign<u32> for Duration {
     ghost can_shr_assign = { λ _ k. k < 64 };
 

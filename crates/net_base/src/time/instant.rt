@@ -12,11 +12,10 @@ use std::ops::{Add, AddAssign, Sub, SubAssign};
 
 mod numbers;
 
-/// A moment, in microseconds since an origin of the user's own, such as the start of the system. A
-/// moment below zero is before the origin. With it a caller says what time it is, in timeouts and
-/// to a device that it polls.
+/// A moment, in microseconds since an origin that you choose, such as the start of the system. A
+/// negative one is before the origin. Calls that need to know the time take it as an argument.
 ///
-/// It has -2^63 to 2^63 - 1 microseconds. Quotients are cut towards zero.
+/// It has -2^63 to 2^63 - 1 microseconds. Quotients are rounded towards zero.
 ///
 /// ```
 /// use net_base::time::{Duration, Instant};
@@ -65,7 +64,7 @@ impl Instant {
         Instant { micros }
     }
 
-    /// Returns whether the value fits; precondition of `from_millis`.
+    /// Returns whether the microseconds fit an `i64`. If they don't, `from_millis` panics.
     ///
     /// ```
     /// # use net_base::time::Instant;
@@ -89,7 +88,7 @@ impl Instant {
     ///
     /// # Requires
     ///
-    /// So many microseconds fit 64 bits with a sign, as `fits_millis` tests.
+    /// The microseconds fit an `i64`, as `fits_millis` tests.
     #[inline]
     #[track_caller]
     #[must_use]
@@ -106,7 +105,7 @@ impl Instant {
         }
     }
 
-    /// Returns whether the value fits; precondition of `from_secs`.
+    /// Returns whether the microseconds fit an `i64`. If they don't, `from_secs` panics.
     ///
     /// ```
     /// # use net_base::time::Instant;
@@ -120,7 +119,7 @@ impl Instant {
         matches!(secs.checked_mul(1_000_000), Some(_))
     }
 
-    /// Returns the same as `from_secs`, in a constant too. smoltcp has no such call.
+    /// Returns the same as `from_secs`, in a constant too. (Not in smoltcp.)
     ///
     /// ```
     /// # use net_base::time::Instant;
@@ -130,7 +129,7 @@ impl Instant {
     ///
     /// # Requires
     ///
-    /// So many microseconds fit 64 bits with a sign, as `fits_secs` tests.
+    /// The microseconds fit an `i64`, as `fits_secs` tests.
     #[inline]
     #[track_caller]
     #[must_use]
@@ -214,7 +213,7 @@ impl Instant {
         self.micros
     }
 
-    /// Returns whether the sum fits: whether `+` and `+=` don't saturate.
+    /// Returns whether the sum is a moment. If it isn't, `+` and `+=` saturate.
     ///
     /// ```
     /// # use net_base::time::{Duration, Instant};
@@ -229,7 +228,7 @@ impl Instant {
         self.checked_add(duration).is_some()
     }
 
-    /// Returns whether the difference fits: whether `-` and `-=` don't saturate.
+    /// Returns whether the difference is a moment. If it isn't, `-` and `-=` saturate.
     ///
     /// ```
     /// # use net_base::time::{Duration, Instant};
@@ -244,7 +243,7 @@ impl Instant {
         self.checked_sub(duration).is_some()
     }
 
-    /// Returns `self + duration`, or `None` exactly if that is after the last moment.
+    /// Returns `self + duration`, or `None` if that is after the last moment.
     ///
     /// ```
     /// # use net_base::time::{Duration, Instant};
@@ -261,7 +260,7 @@ impl Instant {
             .map(|micros| Instant { micros })
     }
 
-    /// Returns `self - duration`, or `None` exactly if that is before the first moment.
+    /// Returns `self - duration`, or `None` if that is before the first moment.
     ///
     /// ```
     /// # use net_base::time::{Duration, Instant};
@@ -369,8 +368,8 @@ impl fmt::Display for Instant {
     }
 }
 
-/// Returns the moment `rhs` later, or the last moment if that is after it; `can_add` tells. smoltcp casts
-/// the length to a signed number: it panics, wraps, or goes back.
+/// Returns the moment `rhs` later, or the last moment if that is after it, as `can_add` tests.
+/// smoltcp casts the length to a signed number: it panics, wraps, or goes back.
 impl Add<Duration> for Instant {
     type Output = Instant;
 
@@ -394,7 +393,7 @@ impl AddAssign<Duration> for Instant {
     }
 }
 
-/// Returns the moment `rhs` earlier, or the first moment if that is before it; `can_sub` tells.
+/// Returns the moment `rhs` earlier, or the first moment if that is before it, as `can_sub` tests.
 impl Sub<Duration> for Instant {
     type Output = Instant;
 

@@ -1,16 +1,22 @@
-//! A stream's receiver alone, for other rules of what is acknowledged, as QUIC has. The stream of bytes
-//! ends or not. The end is the position after the last byte.
-//! It has a number, as TCP's FIN has, and needs no room. It is known once a segment has said so; a
-//! stream whose segments never say so doesn't end.
+//! A stream's receiver alone, for other rules of what is acknowledged, as QUIC has. The stream of
+//! bytes ends or not. The end is the position after the last byte. It takes a position, as TCP's
+//! FIN does, but no room. It is known once a segment has said so; a stream whose segments never say
+//! so doesn't end.
 //!
-//! A head of zeros is new, of a stream that begins at position 0. The queue is the ring of
-//! `receiver.place`, at which `net_base_ring_allocated` looks; the rest of the storage is free. The
-//! first missing position is `receiver.first`, plus the bytes read, plus those queued. Held run k,
-//! of `receiver.held.used`, is from that position plus `receiver.held.first_start` plus
-//! `runs[k].start` on, and its end likewise.
+//! A head of zeros is new, of a stream that begins at position 0.
+//! `net_base_finite_receiver_segment` takes what arrives, and `net_base_finite_receiver_read`
+//! copies what is in order. To read in place, pass `receiver.place` to `net_base_ring_allocated`,
+//! which says where the queue is, and then take the bytes off by `net_base_finite_receiver_remove`.
+//! `net_base_finite_receiver_acknowledged` says up to where all has arrived, and
+//! `net_base_finite_receiver_has_read_all` that the stream has ended and all of it was read.
+//!
+//! The first missing position is `receiver.first`, plus the bytes read, plus those queued. Waiting
+//! range k, of `receiver.held.used`, is from that position plus `receiver.held.first_start` plus
+//! `runs[k].start` on, and its end likewise. The rest of the storage is free, and waiting ranges
+//! are kept in it.
 //!
 //! An end in order is never refused: that of a last segment which begins at or below the first
-//! missing position and ends at or above it. What was held beyond it, and an end that was known, go
+//! missing position and ends at or above it. What waited beyond it, and an end that was known, go
 //! then. An end beyond the free window isn't taken.
 ghost use Rattle.net_assembler.specs.RunLists.{IsCanonical};
 ghost use Rattle.net_ffi.specs.ReceiverParts.{HasRuns, IsReadable};
@@ -32,7 +38,7 @@ use net_assembler::Run;
 use net_receiver::FiniteReceiverHead;
 
 /// Makes `receiver` the head of a receiver of a stream that begins at position `first`; nothing has
-/// arrived. It is sound with every storage and all runs.
+/// arrived. Storage and runs may have any values.
 ///
 /// It is refused if `first` is `u64::MAX`: false, and nothing changes.
 #[unsafe(no_mangle)]
@@ -57,8 +63,8 @@ pub extern "C" fn net_base_finite_receiver_init(
 }
 
 /// Returns whether this head, a storage of `capacity` bytes and runs are sound: they are those of a
-/// receiver, and the position after its last byte, held ones too, is at most the end, if that is
-/// known, and below 2^64 - 1. It looks at each held run, and at no byte.
+/// receiver, and the position after its last byte, also of those that wait, is at most the end, if
+/// that is known, and below 2^64 - 1. It looks at each used run, and at no byte.
 #[unsafe(no_mangle)]
 pub extern "C" fn net_base_finite_receiver_is_sound(
     receiver: &FiniteReceiverHead,
@@ -71,7 +77,7 @@ pub extern "C" fn net_base_finite_receiver_is_sound(
 }
 
 /// Returns whether the stream can end at `position`: it is the end that is known, or none is, and
-/// it isn't below the first missing position or a held run's end. 2^64 - 1 is no end.
+/// it isn't below the first missing position or the end of a waiting range. 2^64 - 1 is no end.
 ///
 /// It is refused if the first missing position doesn't fit 64 bits, or `held.used` is above
 /// `runs.len()`: false.
@@ -99,9 +105,9 @@ pub extern "C" fn net_base_finite_receiver_can_end(
 }
 
 /// Writes to `number` the number that an acknowledgement carries: the first missing position, or,
-/// once all bytes and the end have arrived, the end plus 1, since the end has a number.
+/// once all bytes and the end have arrived, the end plus 1, since the end takes a position.
 ///
-/// It is refused if the number after the first missing position doesn't fit 64 bits: false, and
+/// It is refused if the position after the first missing one doesn't fit 64 bits: false, and
 /// nothing changes.
 #[unsafe(no_mangle)]
 pub extern "C" fn net_base_finite_receiver_acknowledged(
@@ -126,7 +132,7 @@ pub extern "C" fn net_base_finite_receiver_acknowledged(
 
 /// Returns whether all bytes were read, up to the end. Once it is so it stays so.
 ///
-/// It is refused if the number after the first missing position doesn't fit 64 bits: false.
+/// It is refused if the position after the first missing one doesn't fit 64 bits: false.
 #[unsafe(no_mangle)]
 pub extern "C" fn net_base_finite_receiver_has_read_all(receiver: &FiniteReceiverHead) -> bool
     ensures state { next_of receiver.now < no_end → (storage : List ℕ) (runs : List (ℕ × ℕ))
@@ -139,8 +145,9 @@ pub extern "C" fn net_base_finite_receiver_has_read_all(receiver: &FiniteReceive
     receiver.has_read_all()
 }
 
-/// Moves bytes from the head of the queue to the beginning of `into`, and returns how many: as many
-/// as are queued and as `into` has room for. The rest of `into` stays as it is.
+/// Copies bytes from the beginning of the queue to that of `into`, takes them off the queue, and
+/// returns how many: as many as are queued and as `into` has room for. The rest of `into` stays as
+/// it is.
 ///
 /// It is refused if `receiver.receiver.place` isn't that of a ring of `storage.len()` elements, or
 /// if the first missing position doesn't fit 64 bits: `NET_BASE_NONE`, and nothing changes.
@@ -176,8 +183,8 @@ pub extern "C" fn net_base_finite_receiver_read(
     receiver.read(storage, into)
 }
 
-/// Removes the first `count` bytes of the queue, as `net_base_finite_receiver_read` does, and
-/// copies none. `capacity` is how many bytes the storage has.
+/// Takes the first `count` bytes off the queue, as `net_base_finite_receiver_read` does, and copies
+/// none: they were read in place. `capacity` is how many bytes the storage has.
 ///
 /// It is refused if `receiver.receiver.place` isn't that of a ring of `capacity` elements, or if
 /// fewer than `count` elements are queued, or if the first missing position doesn't fit 64 bits:

@@ -3,7 +3,7 @@
 //!
 //! A head of zeros is that of an empty buffer, whose packet is waited for up to moment 0. The
 //! longest packet has as many bytes as the storage. Fragments may overlap: at each position the
-//! byte is that of the last fragment there. `present` is an assembler.
+//! byte is that of the last fragment there. `present` has the runs of what has arrived.
 ghost use Rattle.net_assembler.specs.Positions.{nothing};
 ghost use Rattle.net_assembler.specs.RunLists.{HasSoundRuns, set_of};
 ghost use Rattle.net_base.specs.Fragments.{Adds, Differs, HasSoundParts, IsExact, IsPlausible, TakesSize};
@@ -19,7 +19,7 @@ use net_assembler::Run;
 use net_base::storage::FragmentsHead;
 
 /// Makes `fragments` the head of an empty buffer, whose packet is waited for up to `expires_at`, in
-/// microseconds. It is sound for any memory.
+/// microseconds. Storage and runs may have any values.
 #[unsafe(no_mangle)]
 pub extern "C" fn net_base_fragments_init(fragments: &mut FragmentsHead, expires_at: i64)
     ensures sound { (storage : List ℕ) (runs : List (ℕ × ℕ))
@@ -31,9 +31,9 @@ pub extern "C" fn net_base_fragments_init(fragments: &mut FragmentsHead, expires
     *fragments = FragmentsHead::new(expires_at);
 }
 
-/// Returns whether head and runs are those of a buffer of `capacity` bytes, for any numbers:
-/// `present` and the runs are those of an assembler, which end at `capacity` or below, and at a
-/// known size or below, which is at most `capacity`. It looks at each used run.
+/// Returns whether head and runs are sound over a storage of `capacity` bytes, whatever numbers
+/// they have: the runs rise without touching, end at `capacity` or below, and at a known size or
+/// below, which is at most `capacity`. It looks at each used run.
 #[unsafe(no_mangle)]
 pub extern "C" fn net_base_fragments_is_sound(
     fragments: &FragmentsHead,

@@ -1,9 +1,10 @@
 //! Packets in the order of their arrival: where each has its slots and its bytes.
 //!
 //! A head of zeros is new. A packet's bytes are contiguous. If it doesn't fit before the storage's
-//! end, it is placed at its beginning, and the bytes before the end are a gap. A packet uses one
-//! slot, and a gap before it one more. The slots, which calls write, are beside what the program
-//! has for each packet. What is refused changes nothing.
+//! end, it is placed at its beginning, and the bytes before the end are a *gap*. A packet uses one
+//! slot, and a gap before it one more: have a slot more than packets. Calls write the slots. What
+//! you know of a packet besides, such as its address, keep in an array of your own, of as many
+//! elements as there are slots, at the index `slot` that the call returned.
 ghost use Rattle.net_packets.specs.Packets.{with_last_size};
 ghost use Rattle.net_packets.specs.PacketsHead.{CanShorten, HasSoundSlots, IsSoundHead, last_slot, last_slot_index};
 ghost use Rattle.net_packets.specs.PacketsHead.{packet_slot, packets_head, queue_of};

@@ -3,14 +3,18 @@
 //! A head of zeros is new. If the elements aren't bytes, pass only the capacity: the call returns
 //! indices, and you copy.
 //!
-//! What is lent so, to DMA too, stays where it is. Queued elements stay until they are dequeued or
-//! dropped, whatever is enqueued. Free ones stay until they are enqueued, whatever is dequeued; but
-//! `enqueue_slice` uses them, and moves them to the storage's beginning where the queue is empty.
-//! So while DMA writes free elements, don't call it, and `enqueue` what DMA has written.
+//! The elements that a call found stay where they are. Queued ones do until they are dequeued,
+//! whatever is enqueued. Free ones do until they are enqueued, whatever is dequeued; but
+//! `enqueue_slice` writes free elements, and if the queue is empty it moves them to the storage's
+//! beginning. So to fill the storage by DMA, ask `unallocated`, start the DMA there, and `enqueue`
+//! as many elements once it has ended. Until then call neither `enqueue_slice` nor `init`; all
+//! others may be called. No interrupt need be masked while the DMA runs, only around each call. The
+//! same is true of elements that you copy yourself. One writer fills at a time, since `unallocated`
+//! finds the same elements until they are enqueued.
 //!
-//! A head that doesn't fit the capacity is refused. An empty queue may begin at any index;
+//! A call is refused if the head doesn't fit the capacity. An empty queue may begin at any index;
 //! `read_at` is 0 if the capacity is. A call that takes the last element off leaves `read_at` after
-//! it, and doesn't rewind. In a span of no elements `from` is where the first would be.
+//! it, and doesn't go back to 0. In a span of no elements `from` is where the first would be.
 ghost use Rattle.net_ffi.specs.Refusals.{no_number, nowhere};
 ghost use Rattle.net_ring.specs.Ring.{Dequeues, Enqueues, queue, rewind_if_empty, window};
 ghost use Rattle.net_ring.specs.Ring.{with_dequeued, with_elements_wrapping, with_enqueued, write_at};
@@ -21,7 +25,7 @@ ghost use Rattle.std.specs.Prelude.{IsFalse, IsTrue, drop, length, min, take, â—
 use crate::refusals::{no_number, refused_span};
 use net_ring::{RingHead, Span};
 
-/// Makes `ring` the head of an empty ring, which is sound for each storage.
+/// Makes `ring` the head of an empty ring, for a storage of any length.
 #[unsafe(no_mangle)]
 pub extern "C" fn net_base_ring_init(ring: &mut RingHead)
     ensures { ring.new â‰¡ place_of 0 0 }
@@ -84,10 +88,10 @@ pub extern "C" fn net_base_ring_allocated(
     ring.allocated(capacity, offset, size)
 }
 
-/// Enqueues `count` elements, with what the storage has there.
+/// Enqueues `count` elements that you have written to the storage before.
 ///
-/// It is refused if `ring` isn't the head of a ring of `capacity` elements, or if fewer than `count`
-/// elements are free: false, and nothing changes.
+/// It is refused if `ring` isn't the head of a ring of `capacity` elements, or if fewer than
+/// `count` elements are free: false, and nothing changes.
 #[unsafe(no_mangle)]
 pub extern "C" fn net_base_ring_enqueue(ring: &mut RingHead, capacity: usize, count: usize) -> bool
     ensures done { IsTrue result

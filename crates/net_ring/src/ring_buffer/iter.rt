@@ -2,7 +2,8 @@
 use crate::width::most;
 use std::marker::Model;
 
-/// An iterator over the elements of a queue, the first one first, made by `RingOver::iter`.
+/// An iterator over the elements of a queue, the first one first, made by
+/// [`RingOver::iter`](super::RingOver::iter).
 ///
 /// ```
 /// use net_base::storage::RingBuffer;

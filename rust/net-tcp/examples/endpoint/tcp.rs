@@ -94,6 +94,8 @@ pub struct Endpoint<const N: usize> {
     window: u64,
     threshold: u64,
     before: Option<(u64, u64)>,
+    /// What was sent when they were halved last: until it is acknowledged, that recovery lasts.
+    recovers_until: u64,
     /// How much was in flight when something was sent last.
     flight: u64,
     /// Since when an answer is due.
@@ -133,6 +135,7 @@ impl<const N: usize> Endpoint<N> {
             window: 0,
             threshold: u64::MAX,
             before: None,
+            recovers_until: 0,
             flight: 0,
             unanswered_since: None,
             quiet_since: None,
@@ -311,7 +314,11 @@ impl<const N: usize> Endpoint<N> {
     /// tell of the loss.
     fn halve(&mut self) {
         self.timestamps.halved();
-        self.before = Some((self.window, self.threshold));
+        let numbers = self.sending.numbers();
+        if numbers.first_unacknowledged >= self.recovers_until {
+            self.before = Some((self.window, self.threshold));
+        }
+        self.recovers_until = numbers.sent;
         let mss = self.sending.segment_size() as u64;
         self.threshold = (self.flight.max(self.sending.flight_size()) / 2).max(2 * mss);
         self.window = self.threshold;
@@ -323,6 +330,7 @@ impl<const N: usize> Endpoint<N> {
             self.window = self.window.max(window);
             self.threshold = self.threshold.max(threshold);
         }
+        self.recovers_until = 0;
     }
 
     /// Returns when `next_packet` is to be called.
@@ -378,8 +386,6 @@ impl<const N: usize> Endpoint<N> {
                 self.timestamps.expired();
                 self.window = self.sending.segment_size() as u64;
             }
-            // What is lost then halves nothing.
-            Expired::Probe => self.before = None,
             _ => {}
         }
         self.counts.probes += u64::from(matches!(expired, Expired::Overdue { .. }));

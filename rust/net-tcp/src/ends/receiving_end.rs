@@ -24,11 +24,11 @@ use net_base::storage::Storage;
 #[derive(Clone, Debug, PartialEq, Eq)]
 #[non_exhaustive]
 pub struct Acknowledgement {
-    /// The first number that is missing.
+    /// The first position that is missing. The end of the stream has one too, after the last byte.
     pub next: u64,
     /// The window, in units of the scale.
     pub window: u16,
-    /// What came twice since the last one, if anything did (RFC 2883), and then the newest runs that were kept beyond
+    /// What came twice since the last one, if anything did (RFC 2883), and then the newest ranges that wait beyond
     /// `next`, the newest first.
     pub blocks: SackBlocks,
 }
@@ -110,7 +110,7 @@ fn count_of(blocks: [Option<(u64, u64)>; 4]) -> usize {
 /// ```
 #[derive(Copy, Clone, Debug, PartialEq, Eq)]
 pub struct AckFields {
-    /// The first number that is missing.
+    /// The first position that is missing. The end of the stream has one too, after the last byte.
     pub next: u64,
     /// The window, in units of the scale.
     pub window: u16,
@@ -129,11 +129,10 @@ pub struct Room {
     pub is_complete: bool,
 }
 
-/// All of a receiving end but its receiver: what it announced, when it acknowledges, and what came twice. Its calls are
-/// given the receiver's numbers; who holds both has the receiver take what arrives.
+/// All of a receiving end but its receiver: what it announced, when it acknowledges, and what came twice.
 ///
-/// It is numbers alone, so that C has it as it is. One of zeros is new, of a stream that begins at position 0, with
-/// segments of no bytes.
+/// Its calls are given the receiver's numbers; who holds both has the receiver take what arrives. It is numbers alone,
+/// so that C has it as it is. One of zeros is new, of a stream that begins at position 0, with segments of no bytes.
 #[repr(C)]
 #[derive(Debug, Clone, Copy)]
 pub struct ReceivingHead {
@@ -141,7 +140,7 @@ pub struct ReceivingHead {
     pub advertised: AdvertisedWindow,
     /// The position of the newest segment.
     pub newest: u64,
-    /// The starts of the runs that were listed last.
+    /// The starts of the ranges that were listed last.
     pub recent: [u64; 4],
     /// What came twice, and wasn't reported yet.
     pub duplicate: HeldRun,
@@ -211,7 +210,7 @@ impl ReceivingHead {
         self.unanswered >= 2
     }
 
-    /// Returns whether an acknowledgement is to be sent before the program waits, as `ReceivingEndOver::is_wanted`.
+    /// Returns whether an acknowledgement is to be sent within half a second, as `ReceivingEndOver::is_wanted`.
     ///
     /// # Requires
     ///
@@ -241,7 +240,7 @@ impl ReceivingHead {
         self.promise(room)
     }
 
-    /// Returns the number and the window of a segment without bytes, and takes notice that it tells them.
+    /// Returns the number and the window of a segment without bytes, and counts them as told.
     pub(crate) fn acknowledge(&mut self, room: Room) -> (u64, u16) {
         self.unanswered = 0;
         self.promise(room)
@@ -452,9 +451,10 @@ impl<S: Storage<u8>, const N: usize> ReceivingEndOver<S, N> {
         self.head.is_due()
     }
 
-    /// Returns whether an acknowledgement is to be sent before the program waits: something came, or an update of the
-    /// window is worth a segment. No update is, once all bytes and the end have arrived: nothing follows that needs
-    /// room, and a peer that has closed its connection would answer it by a reset.
+    /// Returns whether an acknowledgement is to be sent within half a second (RFC 9293, 3.8.6.3): a segment waits for
+    /// one, or an update of the window is worth a segment. No update is, once all bytes and the end have arrived:
+    /// nothing follows that needs room, and a peer that has closed its connection would answer it by a reset. Ask it
+    /// before you wait, and again before you then send one: a segment with bytes may have acknowledged in the meantime.
     ///
     /// ```
     /// # use net_tcp::ReceivingEnd;
@@ -472,9 +472,9 @@ impl<S: Storage<u8>, const N: usize> ReceivingEndOver<S, N> {
         self.head.is_wanted(self.room())
     }
 
-    /// Returns what a segment with bytes of its own tells, and takes notice that it does: the first number that is
-    /// missing, and the window, in units of the scale. The window's edge is moved only if that is worth a segment.
-    /// An acknowledgement that is due stays so, since it lists runs.
+    /// Returns what a segment with bytes of its own tells, and counts it as told: the first position that is missing,
+    /// and the window, in units of the scale. The window's edge is moved only if that is worth a segment. An
+    /// acknowledgement that is due stays so, since it lists ranges.
     ///
     /// ```
     /// # use net_tcp::ReceivingEnd;
@@ -492,7 +492,7 @@ impl<S: Storage<u8>, const N: usize> ReceivingEndOver<S, N> {
         AckFields { next, window }
     }
 
-    /// Returns what a segment without bytes tells, and takes notice that it does. What came twice is told once.
+    /// Returns what a segment without bytes tells, and counts it as told. What came twice is told once.
     ///
     /// ```
     /// # use net_tcp::ReceivingEnd;
@@ -520,8 +520,8 @@ impl<S: Storage<u8>, const N: usize> ReceivingEndOver<S, N> {
         [runs.next(), runs.next(), runs.next(), runs.next()]
     }
 
-    /// Moves bytes from the head of the queue to the beginning of `into`, and returns how many: as many as are queued
-    /// and as `into` has room for. The rest of `into` stays as it is.
+    /// Copies bytes from the beginning of the queue to that of `into`, takes them off the queue, and returns how many:
+    /// as many as are queued and as `into` has room for. The rest of `into` stays as it is.
     ///
     /// ```
     /// # use net_tcp::ReceivingEnd;
@@ -541,7 +541,7 @@ impl<S: Storage<u8>, const N: usize> ReceivingEndOver<S, N> {
     ///
     /// # Panics
     ///
-    /// Panics unless `f` takes that part, and counts no more bytes than it is lent.
+    /// Panics unless `f` takes that part, and counts at most as many bytes as it was lent.
     #[track_caller]
     pub fn read_with<R, F: FnOnce(&[u8]) -> (usize, R)>(&mut self, f: F) -> (usize, R) {
         let part = self.first_part();

@@ -166,6 +166,8 @@ pub struct LossRecovery {
     has_probe: bool,
     /// Whether the peer doesn't report what has arrived, as the SYNs say.
     is_blind: bool,
+    /// Whether the last recovery was a sign of congestion, and wasn't taken back.
+    is_congestion: bool,
 }
 
 impl LossRecovery {
@@ -192,6 +194,7 @@ impl LossRecovery {
             duplicates: DUPLICATES,
             has_probe: false,
             is_blind: false,
+            is_congestion: false,
         }
     }
 
@@ -261,7 +264,8 @@ impl LossRecovery {
     /// Returns whether the last recovery was for nothing, and ends it then: nothing that it found lost is missing but
     /// what was sent again, and all that was sent again came twice (RFC 3708). Then the congestion window may be what
     /// it was when the recovery began. Ask it after each acknowledgement, an old one too, once `acknowledged` has it.
-    /// It is true once: not before another recovery begins.
+    /// It is true at most once after each call that told of congestion: `acknowledged`, `fell_silent` or
+    /// `reports_dropped` that returned true, or `timed_out`.
     ///
     /// ```
     /// # use net_base::scoreboard::Scoreboard;
@@ -280,9 +284,10 @@ impl LossRecovery {
     #[must_use]
     pub fn take_back<B: Reported>(&mut self, numbers: SentNumbers, scoreboard: &B) -> bool {
         let is_wrong =
-            self.until > 0 && self.copies.count == 0 && self.unsent(numbers, scoreboard) == 0;
+            self.is_congestion && self.copies.count == 0 && self.unsent(numbers, scoreboard) == 0;
         if is_wrong {
             self.until = 0;
+            self.is_congestion = false;
         }
         is_wrong
     }
@@ -711,8 +716,9 @@ impl LossRecovery {
         begins
     }
 
-    /// Begins a recovery in which all that was sent and isn't reported is lost, as when the timer has expired. Three
-    /// segments above a position tell again that it is lost.
+    /// Begins a recovery in which all that was sent and isn't reported is lost, since the timer has expired. Three
+    /// segments above a position tell again that it is lost. Let one segment be in flight, until `take_back` says that
+    /// this was wrong.
     ///
     /// ```
     /// # use net_base::scoreboard::Scoreboard;
@@ -725,6 +731,31 @@ impl LossRecovery {
     /// assert_eq!(recovery.next_segment(numbers, &scoreboard, 800, 100, 100), Some(0..100));
     /// ```
     pub fn timed_out(&mut self, numbers: SentNumbers) {
+        self.lose_all(numbers);
+        self.is_congestion = true;
+    }
+
+    /// Begins a recovery as `timed_out` does, but one that is no sign of congestion: the peer's window is shut, so it
+    /// drops what is sent, or nothing is in flight. `take_back` isn't true of it. If a recovery is active, it goes on,
+    /// and may be taken back as before.
+    ///
+    /// ```
+    /// # use net_base::scoreboard::Scoreboard;
+    /// # use net_tcp::{LossRecovery, SentNumbers};
+    /// # let numbers = SentNumbers { first_unacknowledged: 0, sent: 1 };
+    /// # let scoreboard = Scoreboard::<4>::empty();
+    /// # let mut recovery = LossRecovery::new();
+    /// // The first byte asks for a window, and is acknowledged when that opens.
+    /// recovery.stalled(numbers);
+    /// assert!(!recovery.take_back(SentNumbers { first_unacknowledged: 1, sent: 1 }, &scoreboard));
+    /// ```
+    pub fn stalled(&mut self, numbers: SentNumbers) {
+        let is_congestion = self.is_active(numbers) && self.is_congestion;
+        self.lose_all(numbers);
+        self.is_congestion = is_congestion;
+    }
+
+    fn lose_all(&mut self, numbers: SentNumbers) {
         self.duplicates = DUPLICATES;
         self.unknown = 0;
         self.begin(numbers, numbers.sent);
@@ -734,6 +765,7 @@ impl LossRecovery {
         let first = numbers.first_unacknowledged;
         if !self.is_active(numbers) {
             self.copies = RecoveryCopies { since: first, count: 0 };
+            self.is_congestion = true;
         }
         self.until = numbers.sent;
         self.lost = lost;

@@ -206,7 +206,7 @@ impl Model {
                 held,
                 "text that isn't acceptable"
             );
-            let is_silent = has(RST) && (!is_acceptable || at == next)
+            let is_silent = has(RST) && (!is_acceptable && !is_at_edge || at == next)
                 || (is_acceptable || is_at_edge || is_probe || is_behind) && !has(RST | SYN | ACK);
             // What may be an answer itself is answered twice a second.
             let is_limited = !is_heard && (len == 0 || has(SYN));

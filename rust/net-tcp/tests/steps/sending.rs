@@ -184,6 +184,7 @@ fn a_window_that_opens_byte_by_byte() {
     step!(it.expired(1_000_000) => "probe", sends(1, 1_000_000) "80-85";
         sent = 85, expires_at = Some(1_202_000), timeouts = 1);
     step!(it.write(0) => 0, sends(1000, 1_000_000) "");
+    step!(it.take_back() => false);
 }
 
 /// Half of the greatest window will do, here 15 of 30 and 31, where a segment has 20.
@@ -258,6 +259,15 @@ fn a_shut_window_is_probed() {
         beyond = 0);
     step!(it.acknowledged(3_300_000, [4, 21, 10], &[]) => "taken 1", sends(100, 3_300_000) "21-30";
         first = 11, sent = 20, window = 91, expires_at = Some(3_700_000), timeouts = 0, is_recovering = false);
+
+    let mut it = Sending::<4>::new(100, 0);
+    step!(it.open(0, 0, 0, 10, true, 0));
+    step!(it.write(3) => 3, sends(100, 0) ""; window = 97, expires_at = Some(1_000_000));
+    step!(it.expired(1_000_000) => "probe", sends(1, 1_000_000) "0-1";
+        sent = 1, expires_at = Some(3_000_000), timeouts = 1, is_recovering = true, beyond = 1);
+    step!(it.acknowledged(1_000_000, [1, 1, 10], &[]) => "taken 1";
+        first = 1, window = 98, expires_at = None, timeouts = 0, trip = Some(0), is_recovering = false, beyond = 0);
+    step!(it.take_back() => false);
 }
 
 /// No answer comes for two round trips: the last segment asks for one (RFC 8985, 7.3). A block that answers tells

@@ -1,7 +1,7 @@
-//! Packets that arrive in fragments from several sources at a time: a buffer for each key.
+//! Reassembles several packets at a time: each packet has a key, and a slot with a buffer.
 //!
-//! The slots are lent: as many packets are reassembled at a time. smoltcp has such a table of its own
-//! buffers, `PacketAssemblerSet`. Before each fragment, free the slots that waited too long.
+//! You lend the slots, one for each packet that can wait at a time. Before each fragment, free the
+//! slots of packets that have expired. smoltcp's table is `PacketAssemblerSet`.
 //!
 //! ```
 //! use net_base::storage::fragment_table::{accept, remove_expired, take_complete, FragmentSlot};
@@ -36,7 +36,8 @@ use crate::time::Instant;
 use net_ring::Storage;
 use thiserror::Error;
 
-/// Why a fragment is refused. Nothing changes then.
+/// Why a fragment is refused. Nothing changes, and the packet can still be completed by other
+/// fragments.
 ///
 /// ```
 /// use net_base::storage::fragment_table::{accept, AcceptError, FragmentSlot};
@@ -49,22 +50,22 @@ use thiserror::Error;
 #[derive(Debug, Clone, Copy, PartialEq, Eq, Hash, Drop, Error)]
 pub enum AcceptError {
     /// It has no bytes.
-    #[error("the fragment has no bytes")]
+    #[error("the fragment has no bytes: drop it")]
     NoBytes,
     /// There are no slots.
-    #[error("the table has no slots")]
+    #[error("the table has no slots: make it with at least one")]
     NoSlot,
-    /// A byte of the packet that has arrived is another one.
-    #[error("the fragment contradicts bytes that have arrived")]
+    /// A byte of it differs from one that has arrived.
+    #[error("the fragment contradicts bytes that have arrived: drop it")]
     OtherBytes,
-    /// It reaches past the end of the buffer.
-    #[error("the fragment ends past the buffer")]
+    /// It ends past the buffer.
+    #[error("the fragment ends past the buffer: drop it")]
     TooLong,
-    /// It would leave more maximal runs of bytes, with holes between them, than there is room for.
-    #[error("too many holes")]
+    /// There would be more than `N` ranges of bytes, with holes between them.
+    #[error("too many holes: drop the fragment")]
     TooManyHoles,
-    /// It reaches past the packet's end, or is the last one, and the packet can't end there.
-    #[error("the fragment contradicts the packet's size")]
+    /// It ends past the packet, or is the last one, and the packet can't end there.
+    #[error("the fragment contradicts the packet's size: drop it")]
     OtherSize,
 }
 
@@ -79,7 +80,7 @@ fn refusal(error: FragmentError) -> AcceptError
     }
 }
 
-/// A buffer of fragments, and the key of the packet that it is for, if it is for one.
+/// A buffer of fragments, and the key of its packet; a free slot has no key.
 ///
 /// ```
 /// use net_base::storage::fragment_table::FragmentSlot;
@@ -91,12 +92,12 @@ fn refusal(error: FragmentError) -> AcceptError
 pub struct FragmentSlot<K, B: Storage<u8>, const N: usize> {
     /// The key of the packet, such as its source, destination, protocol and identification.
     pub key: Option<K>,
-    /// Its fragments. Where there is no key, they are those of an earlier packet.
+    /// The packet's fragments; in a free slot, those of an earlier packet.
     pub buffer: FragmentsOver<B, N>,
 }
 
 impl<K: Copy + Eq, B: Storage<u8>, const N: usize> FragmentSlot<K, B, N> {
-    /// Returns a free slot over the bytes, whose buffer is empty and expires after the origin.
+    /// Returns a free slot, whose empty buffer is over these bytes.
     ///
     /// ```
     /// # use net_base::storage::fragment_table::FragmentSlot;
@@ -208,16 +209,18 @@ fn find_free<K: Copy + Eq, B: Storage<u8>, const N: usize>(
     None
 }
 
-/// Adds a fragment of the packet of this key, whose first byte is that of the packet at `offset`, and returns
-/// the packet's slot; `is_last` says that the packet ends after it. `take_complete` hands out a packet that is whole.
+/// Adds a fragment at `offset` of the packet with this key, and returns the index of the packet's
+/// slot. `is_last` says that the packet ends with it. `take_complete` then returns a packet that is
+/// whole.
 ///
-/// The slot is the first that is for the packet, or else the first free one. If there is none, it is the first of
-/// those that expire before all others, whose packet is given up. So new packets never wait for old ones, however
-/// many came. A packet that is begun is waited for up to `expires_at`.
+/// The slot is the packet's own, or else a free one, or else the one that expires first, whose
+/// packet is dropped. So a new packet never waits for old ones. It is waited for up to
+/// `expires_at`.
 ///
-/// Bytes that have arrived stay: a fragment that has another byte at one of their positions is refused, and
-/// one that has the same bytes there, as a copy has, is taken. RFC 5722 gives up a packet whose fragments
-/// overlap. Here it isn't given up, since who knows the key of a packet could then end it by one fragment.
+/// Bytes that have arrived stay. A fragment with other bytes in their place is refused, and a copy
+/// is accepted. RFC 5722 asks to drop a packet whose fragments overlap. Here it stays: otherwise
+/// anyone who knows its key could end it with one fragment. To drop it, set its slot's `key` to
+/// `None`.
 ///
 /// ```
 /// # use net_base::storage::fragment_table::{accept, AcceptError, FragmentSlot};
@@ -234,9 +237,10 @@ fn find_free<K: Copy + Eq, B: Storage<u8>, const N: usize>(
 ///
 /// # Errors
 ///
-/// It is refused, and nothing changes, exactly if it has no bytes, or else there are no slots, or else a byte
-/// that has arrived differs, or else the buffer refuses it: as `FragmentBuffer::add_fragment` does, in an empty
-/// one if the packet isn't begun. So a fragment that can't be kept takes no slot from another packet.
+/// `NoBytes` if the fragment is empty; else `NoSlot` if the table is; else `OtherBytes` if a byte
+/// differs from one that has arrived; else the error of [`FragmentsOver::add_fragment`], on an
+/// empty buffer if the packet is new. Nothing changes then: a fragment that is refused takes no
+/// slot from another packet.
 pub fn accept<K: Copy + Eq, B: Storage<u8>, const N: usize>(
     slots: &mut [FragmentSlot<K, B, N>],
     key: K,
@@ -302,8 +306,8 @@ fn first_to_expire<K: Copy + Eq, B: Storage<u8>, const N: usize>(
     first
 }
 
-/// Frees the slots of packets that are waited for up to a moment before `now`. Until a slot is taken again, its buffer
-/// shows what arrived.
+/// Frees the slots of packets that have expired at the moment `now`. Until a slot is used again,
+/// its buffer shows what arrived.
 ///
 /// ```
 /// # use net_base::storage::fragment_table::{accept, remove_expired, FragmentSlot};
@@ -329,10 +333,11 @@ pub fn remove_expired<K: Copy + Eq, B: Storage<u8>, const N: usize>(
     }
 }
 
-/// Frees the slot for the packet of this key if all its bytes arrived, and returns it: until it is
-/// taken again, `assemble` of its buffer shows the packet. So a packet is handed out once.
+/// Frees the slot of the packet with this key if the packet is whole, and returns the slot's index.
+/// So a packet is returned once. Until the slot is used again, `assemble` of its buffer shows the
+/// packet.
 ///
-/// `None`, and nothing changes, exactly if no slot is for the packet, or a byte of it is missing.
+/// If no slot is for the packet, or a byte of it is missing, it returns `None` and changes nothing.
 ///
 /// ```
 /// # use net_base::storage::fragment_table::{accept, take_complete, FragmentSlot};
