@@ -14,22 +14,20 @@
  *   runs that the caller keeps: init, is_sound, set_total_size, add, differs, complete.
  * - `net_base_parts_sum_`: The Internet checksum of a message in parts, such as a pseudo-header, a
  *   header and data: init, add, checksum.
- * - `net_base_finite_receiver_`: A stream's receiver alone, for other rules of what is
- *   acknowledged, as QUIC has: init, is_sound, can_end, acknowledged, has_read_all, read, remove,
- *   segment, window_end.
- * - `net_base_receiving_end_`: The receiving end of a stream as one machine: init, is_sound, open,
+ * - `net_base_finite_receiver_`: A stream out of segments, for QUIC or a protocol of your own:
+ *   init, is_sound, can_end, acknowledged, has_read_all, read, remove, segment, window_end.
+ * - `net_base_receiving_end_`: The receiving side of a TCP connection: init, is_sound, open,
  *   classify, arrived, answer, is_due, is_wanted, announce, acknowledgement, read.
- * - `net_base_sending_end_`: The sending end of a stream as one machine: init, is_sound, open,
+ * - `net_base_sending_end_`: The sending side of a TCP connection: init, is_sound, open,
  *   is_opening_due, set_nagle_enabled, write, close, acknowledged, expired, take_back,
  *   next_segment, bytes, is_done, expires_at, empty_segment_position, is_recovering.
- * - `net_base_answer_limit_`: How often a segment is answered of which nothing is taken: init,
- *   allows.
+ * - `net_base_answer_limit_`: A limit of answers to segments of which nothing is taken (RFC 5961,
+ *   section 7): init, allows.
  * - `net_base_sequence_number_`: Sequence numbers of 32 bits, which wrap, and the positions of 64
  *   bits, which don't: position.
  *
  * Functions for C over memory that the caller keeps. There is no heap and no global state. Each
- * export calls a function of a library here. It tests what that function needs, but for the duties
- * below.
+ * call tests what it needs, but for the duties below, and then calls a proved function.
  *
  * Memory
  *
@@ -92,7 +90,7 @@
  * - a status: its `NET_BASE_.._REFUSED`, which is never returned for anything else
  * - `size_t`: `NET_BASE_NONE`
  * - `uint64_t`: `UINT64_MAX`
- * - `uint16_t`: 0, and only for such a pointer or `bool`
+ * - `uint16_t`: 0, for a null pointer or such a `bool` alone
  * - a struct: the same in its first field, and in the others what the comment of the call says
  * - `void`: nothing
  *
@@ -597,9 +595,9 @@ NET_BASE_MUST_USE bool net_base_fragments_is_sound(
     const struct net_base_fragments *fragments, size_t capacity, const struct net_base_run *runs,
     size_t runs_length) NET_BASE_LINK(fragments_is_sound);
 
-/** Sets the packet's size to `size` bytes, of a buffer of `capacity` bytes. Returns
- * `NET_BASE_SIZE_TOO_LONG` if that has fewer, or else `NET_BASE_SIZE_OTHER_SIZE` if another size
- * is known, or a byte at `size` or above has arrived; then nothing changes.
+/** Sets the packet's size to `size` bytes. `capacity` is how many bytes the storage has. Returns
+ * `NET_BASE_SIZE_TOO_LONG` if the storage has fewer, or else `NET_BASE_SIZE_OTHER_SIZE` if another
+ * size is known, or a byte at `size` or above has arrived; then nothing changes.
  *
  * It is refused if `present.used` is above `runs_length`: `NET_BASE_SIZE_REFUSED`, and nothing
  * changes. Requires: head and runs are sound, as `net_base_fragments_is_sound` tests. */
@@ -676,13 +674,11 @@ uint16_t net_base_parts_sum_checksum(
 
 /** @} */
 
-/** @defgroup net_base_finite_receiver A stream's receiver alone, for other rules of what is
- * acknowledged, as QUIC has
+/** @defgroup net_base_finite_receiver A stream out of segments, for QUIC or a protocol of your own
  *
- * A stream's receiver alone, for other rules of what is acknowledged, as QUIC has. The stream of
- * bytes ends or not. The end is the position after the last byte. It takes a position, as TCP's
- * FIN does, but no room. It is known once a segment has said so; a stream whose segments never say
- * so doesn't end.
+ * A stream out of segments, for QUIC or a protocol of your own. The stream is *finite* if a
+ * segment says where it ends; otherwise it has no end. The end is the position after the last
+ * byte. It takes a position, as TCP's FIN does, but no room.
  *
  * @{ */
 
@@ -710,8 +706,8 @@ struct net_base_receiver {
  * are kept in it.
  *
  * An end in order is never refused: that of a last segment which begins at or below the first
- * missing position and ends at or above it. What waited beyond it, and an end that was known, go
- * then. An end beyond the free window isn't taken. */
+ * missing position and ends at or above it. Then what waits beyond it is dropped, and an end that
+ * was known is replaced. An end beyond the free window isn't taken. */
 struct net_base_finite_receiver {
     struct net_base_receiver receiver; /**< The receiver of the bytes. */
     /** The number after the end's, which is acknowledged once all has arrived, or 0 while the end
@@ -736,7 +732,7 @@ struct net_base_kept_counts {
 NET_BASE_MUST_USE bool net_base_finite_receiver_init(
     struct net_base_finite_receiver *receiver, uint64_t first) NET_BASE_LINK(finite_receiver_init);
 
-/** Returns whether this head, a storage of `capacity` bytes and runs are sound: they are those of a
+/** Returns whether head and runs are sound over a storage of `capacity` bytes: they are those of a
  * receiver, and the position after its last byte, also of those that wait, is at most the end, if
  * that is known, and below 2^64 - 1. It looks at each used run, and at no byte. */
 NET_BASE_MUST_USE bool net_base_finite_receiver_is_sound(
@@ -790,19 +786,20 @@ NET_BASE_MUST_USE bool net_base_finite_receiver_remove(
     NET_BASE_LINK(finite_receiver_remove);
 
 /** Keeps the bytes of a segment, the first at `position`, that are in the free window and below the
- * end, and writes to `counts` how many. If it `is_last`, the stream ends after it.
- * `NET_BASE_SEGMENT_OTHER_END` if it can't end there, else `NET_BASE_SEGMENT_TOO_MANY_RUNS` if it
- * lacks the next missing byte and would make one waiting range too many. It is refused if the head
- * isn't one over such storage and runs: `NET_BASE_SEGMENT_REFUSED`. In these three cases nothing
- * changes. Requires: head and runs are sound, as `net_base_finite_receiver_is_sound` tests. */
+ * end, and writes to `counts` how many. If it `is_last`, the stream ends after it. Returns
+ * `NET_BASE_SEGMENT_OTHER_END` if it can't end there, or else `NET_BASE_SEGMENT_TOO_MANY_RUNS` if
+ * it lacks the next missing byte and would make one waiting range too many; then nothing changes.
+ * It is refused if the head isn't one over such storage and runs: `NET_BASE_SEGMENT_REFUSED`, and
+ * nothing changes. Requires: head and runs are sound, as `net_base_finite_receiver_is_sound`
+ * tests. */
 NET_BASE_MUST_USE enum net_base_segment_status net_base_finite_receiver_segment(
     struct net_base_finite_receiver *NET_BASE_RESTRICT receiver, uint8_t *NET_BASE_RESTRICT storage,
     size_t storage_length, struct net_base_run *NET_BASE_RESTRICT runs, size_t runs_length,
     uint64_t position, const uint8_t *NET_BASE_RESTRICT bytes, size_t bytes_length, bool is_last,
     struct net_base_kept_counts *NET_BASE_RESTRICT counts) NET_BASE_LINK(finite_receiver_segment);
 
-/** Writes the end of the free window to `end`, for what is announced, where the storage has
- * `capacity` bytes, and returns true. It is never below what
+/** Writes the end of the free window to `end`, and returns true. That is the first position that
+ * isn't kept, which you may announce. It is never below what
  * `net_base_finite_receiver_acknowledged` writes.
  *
  * It is refused if more than `capacity` bytes are queued, or if that end or the position after the
@@ -813,12 +810,12 @@ NET_BASE_MUST_USE bool net_base_finite_receiver_window_end(
 
 /** @} */
 
-/** @defgroup net_base_receiving_end The receiving end of a stream as one machine
+/** @defgroup net_base_receiving_end The receiving side of a TCP connection
  *
- * The receiving end of a stream as one machine: a receiver of a stream that ends, the window that
- * it announces, when it acknowledges, and what an acknowledgement lists. A connection of TCP has
- * one of these, one `struct net_base_sending_end` and one `struct net_base_answer_limit`. In the
- * order of a connection:
+ * The receiving side of a TCP connection: a receiver of a stream that ends, the window that it
+ * announces, when it acknowledges, and what an acknowledgement lists. A connection of TCP has one
+ * of these, one `struct net_base_sending_end` and one `struct net_base_answer_limit`. In the order
+ * of a connection:
  * - Both directions have a *first position*, which `.._init` and `.._open` are passed: that of the
  *   first byte after the SYN. The SYN has the position before it, and the FIN the one after the
  *   last byte.
@@ -962,10 +959,10 @@ void net_base_receiving_end_answer(
 NET_BASE_MUST_USE bool net_base_receiving_end_is_due(
     const struct net_base_receiving_end *end) NET_BASE_LINK(receiving_end_is_due);
 
-/** Returns whether an acknowledgement is to be sent within half a second (RFC 9293, 3.8.6.3), where
- * the storage has `capacity` bytes: a segment waits for one, or an update of the window is worth a
- * segment. Once all has arrived no update is. Ask it before you wait. A segment with bytes that
- * you send in the meantime acknowledges too: ask again before you send one without.
+/** Returns whether an acknowledgement is to be sent within half a second (RFC 9293, 3.8.6.3): a
+ * segment waits for one, or an update of the window is worth a segment. `capacity` is how many
+ * bytes the storage has. Once all has arrived no update is. Ask it before you wait. A segment with
+ * bytes that you send in the meantime acknowledges too: ask again before you send one without.
  *
  * It is refused if `end` isn't one over `capacity` bytes: false. Requires: the head is sound with
  * the storage, as `net_base_receiving_end_is_sound` tests. */
@@ -1007,9 +1004,9 @@ NET_BASE_MUST_USE size_t net_base_receiving_end_read(
 
 /** @} */
 
-/** @defgroup net_base_sending_end The sending end of a stream as one machine
+/** @defgroup net_base_sending_end The sending side of a TCP connection
  *
- * The sending end of a stream as one machine: a sender of a stream that ends, what the peer has
+ * The sending side of a TCP connection: a sender of a stream that ends, what the peer has
  * reported, what is lost, the timer, and the peer's window. A program needs few of the fields
  * below: it fills in `struct net_base_timeout_bounds`, and net_bound.h has calls that read those
  * of `sender`. All others, such as those of `struct net_base_loss_recovery`, are for the calls
@@ -1167,8 +1164,7 @@ struct net_base_timeout_bounds {
  * `net_base_sending_end_bytes` where that is. At the moment that `net_base_sending_end_expires_at`
  * writes, call `net_base_sending_end_expired`.
  *
- * A number whose flag is false doesn't count, whatever it is. A timeout of 0 that counts passes at
- * once, and then becomes the least one; no call writes such a timeout. */
+ * A number whose flag is false doesn't count, whatever it is. */
 struct net_base_sending_end {
     struct net_base_finite_sender sender; /**< The sender. */
     struct net_base_run runs[16]; /**< The runs of what was reported. */
@@ -1222,8 +1218,9 @@ struct net_base_segment_parts {
 };
 
 /** Makes `end` the sending side of a connection, whose stream begins at position `first`, and to
- * which nothing was written. `first_timeout` is that before any sample: 1 second for TCP (RFC
- * 6298, 2.1), as which 0 counts. The storage may have any values.
+ * which nothing was written. `first_timeout` is the timeout, in microseconds, before any round
+ * trip was measured: 1,000,000 for TCP (RFC 6298, 2.1), as which 0 counts. In `bounds` zeros count
+ * as what the RFC says, but set `ack_delay`. The storage may have any values.
  *
  * It is refused if `first` is `UINT64_MAX`, since an end there would have no number after it:
  * false, and nothing changes. */
@@ -1238,7 +1235,7 @@ NET_BASE_MUST_USE bool net_base_sending_end_is_sound(
     const struct net_base_sending_end *end, size_t capacity) NET_BASE_LINK(sending_end_is_sound);
 
 /** Begins with a peer, whose SYN announced a window, how many bytes a segment may have, and whether
- * it reports blocks (SACK): one that doesn't couldn't answer a probe, and is sent none.
+ * it reports blocks (SACK). Without SACK no probe is sent, as the peer couldn't answer it.
  * `announcement.seq` is the SYN's position, and `announcement.ack` your first position, even if
  * the SYN has no ACK. `segment_size` counts bytes of the stream alone: pass the peer's MSS less
  * the options that each of your segments has (RFC 6691). What was written stays. It is done once,
@@ -1353,10 +1350,11 @@ NET_BASE_MUST_USE bool net_base_sending_end_is_recovering(
 
 /** @} */
 
-/** @defgroup net_base_answer_limit How often a segment is answered of which nothing is taken
+/** @defgroup net_base_answer_limit A limit of answers to segments of which nothing is taken (RFC
+ * 5961, section 7)
  *
- * How often a segment is answered of which nothing is taken. Moments are in microseconds, of one
- * clock.
+ * A limit of answers to segments of which nothing is taken (RFC 5961, section 7). Moments are in
+ * microseconds, of one clock.
  *
  * @{ */
 

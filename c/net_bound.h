@@ -46,7 +46,7 @@ struct net_bound_ring {
     uint8_t *storage; /**< The array that `.._init` was passed. */
     size_t capacity; /**< How many elements that has. */
 };
-/** Makes `ring` the head of an empty ring, for a storage of any length. */
+/** Makes `ring` an empty ring, for a storage of any length. */
 static inline void net_bound_ring_init(
     struct net_bound_ring *ring, uint8_t *storage, size_t capacity) {
     net_base_ring_init(NET_BOUND_HEAD(ring));
@@ -81,14 +81,15 @@ NET_BASE_MUST_USE static inline bool net_bound_ring_dequeue(
     struct net_bound_ring *ring, size_t count) {
     return net_base_ring_dequeue(NET_BOUND_HEAD(ring), NET_BOUND_CAPACITY(ring), count);
 }
-/** Enqueues as many elements of `data` as there is room for, and returns how many. */
+/** Enqueues as many elements of `data` as there is room for, and returns how many. An empty ring
+ * first moves its read index to the storage's beginning, even if nothing is enqueued. */
 NET_BASE_MUST_USE static inline size_t net_bound_ring_enqueue_slice(
     struct net_bound_ring *ring, const uint8_t *data, size_t data_length) {
     return net_bound_or_0(net_base_ring_enqueue_slice(NET_BOUND_HEAD(ring), NET_BOUND_STORAGE(ring),
         data, data_length));
 }
 /** Dequeues as many elements as `into` has room for and are queued, copies them to the beginning of
- * `into`, and returns how many. */
+ * `into`, and returns how many. The rest of `into` stays as it is. */
 NET_BASE_MUST_USE static inline size_t net_bound_ring_dequeue_slice(
     struct net_bound_ring *ring, uint8_t *into, size_t into_length) {
     return net_bound_or_0(net_base_ring_dequeue_slice(NET_BOUND_HEAD(ring), NET_BOUND_STORAGE(ring),
@@ -103,7 +104,7 @@ struct net_bound_packets {
     struct net_base_packet_slot *slots; /**< The array that `.._init` was passed. */
     size_t slots_length; /**< How many elements that has. */
 };
-/** Makes `packets` the head of a queue with no packets. */
+/** Makes `packets` a queue with no packets. */
 static inline void net_bound_packets_init(
     struct net_bound_packets *packets, uint8_t *storage, size_t capacity,
     struct net_base_packet_slot *slots, size_t slots_length) {
@@ -113,7 +114,8 @@ static inline void net_bound_packets_init(
     packets->slots = slots; packets->slots_length = slots_length;
 }
 /** Takes the last `count` bytes off the last packet, lowers the size in its slot, and returns true:
- * for a caller that wrote fewer bytes than it placed. */
+ * for a caller that wrote fewer bytes than it placed. Returns false, and changes nothing, if there
+ * is no packet, or it has fewer bytes. */
 NET_BASE_MUST_USE static inline bool net_bound_packets_shorten_last(
     struct net_bound_packets *packets, size_t count) {
     return net_base_packets_shorten_last(NET_BOUND_HEAD(packets), NET_BOUND_SLOTS(packets),
@@ -159,8 +161,8 @@ struct net_bound_fragments {
     struct net_base_run *runs; /**< The array that `.._init` was passed. */
     size_t runs_length; /**< How many elements that has. */
 };
-/** Makes `fragments` the head of an empty buffer, whose packet is waited for up to `expires_at`, in
- * microseconds. */
+/** Makes `fragments` an empty buffer, whose packet is waited for up to `expires_at`, in
+ * microseconds. Storage and runs may have any values. */
 static inline void net_bound_fragments_init(
     struct net_bound_fragments *fragments, uint8_t *storage, size_t capacity,
     struct net_base_run *runs, size_t runs_length, int64_t expires_at) {
@@ -169,27 +171,31 @@ static inline void net_bound_fragments_init(
     fragments->storage = storage; fragments->capacity = capacity;
     fragments->runs = runs; fragments->runs_length = runs_length;
 }
-/** Returns whether head and runs are sound over a storage of `capacity` bytes, whatever numbers
- * they have. */
+/** Returns whether head and runs are sound, whatever numbers they have. */
 NET_BASE_MUST_USE static inline bool net_bound_fragments_is_sound(
     const struct net_bound_fragments *fragments) {
     return net_base_fragments_is_sound(NET_BOUND_HEAD(fragments), NET_BOUND_CAPACITY(fragments),
         NET_BOUND_RUNS(fragments));
 }
-/** Sets the packet's size to `size` bytes, of a buffer of `capacity` bytes. */
+/** Sets the packet's size to `size` bytes. Returns `NET_BASE_SIZE_TOO_LONG` if the storage has
+ * fewer, or else `NET_BASE_SIZE_OTHER_SIZE` if another size is known, or a byte at `size` or above
+ * has arrived; then nothing changes. */
 NET_BASE_MUST_USE static inline enum net_base_size_status net_bound_fragments_set_total_size(
     struct net_bound_fragments *fragments, size_t size) {
     return net_base_fragments_set_total_size(NET_BOUND_HEAD(fragments),
         NET_BOUND_CAPACITY(fragments), NET_BOUND_RUNS(fragments), size);
 }
-/** Adds a fragment, whose first byte is that of the packet at `offset`. */
+/** Adds a fragment, whose first byte is that of the packet at `offset`. Returns
+ * `NET_BASE_FRAGMENT_TOO_LONG` if it reaches past the buffer's end, or else
+ * `NET_BASE_FRAGMENT_OTHER_SIZE` past a known size, or else `NET_BASE_FRAGMENT_TOO_MANY_RUNS`;
+ * then nothing changes. */
 NET_BASE_MUST_USE static inline enum net_base_fragment_status net_bound_fragments_add(
     struct net_bound_fragments *fragments, size_t offset, const uint8_t *data, size_t data_length) {
     return net_base_fragments_add(NET_BOUND_HEAD(fragments), NET_BOUND_STORAGE(fragments),
         NET_BOUND_RUNS(fragments), offset, data, data_length);
 }
 /** Returns whether a byte that arrived differs from that of the fragment whose first byte is that
- * of the packet at `offset`. */
+ * of the packet at `offset`. The fragment need not be within the buffer. */
 NET_BASE_MUST_USE static inline bool net_bound_fragments_differs(
     const struct net_bound_fragments *fragments, size_t offset, const uint8_t *data,
     size_t data_length) {
@@ -197,7 +203,7 @@ NET_BASE_MUST_USE static inline bool net_bound_fragments_differs(
         NET_BOUND_RUNS(fragments), offset, data, data_length);
 }
 /** Returns whether the packet's size is known and all its bytes have arrived, and if so writes the
- * size to `size`. */
+ * size to `size`. Its bytes are the first ones of the storage. */
 NET_BASE_MUST_USE static inline bool net_bound_fragments_complete(
     const struct net_bound_fragments *fragments, size_t *size) {
     return net_base_fragments_complete(NET_BOUND_HEAD(fragments), NET_BOUND_CAPACITY(fragments),
@@ -212,8 +218,8 @@ struct net_bound_finite_receiver {
     struct net_base_run *runs; /**< The array that `.._init` was passed. */
     size_t runs_length; /**< How many elements that has. */
 };
-/** Makes `receiver` the head of a receiver of a stream that begins at position `first`; nothing has
- * arrived. */
+/** Makes `receiver` a receiver of a stream that begins at position `first`; nothing has arrived.
+ * Storage and runs may have any values. */
 NET_BASE_MUST_USE static inline bool net_bound_finite_receiver_init(
     struct net_bound_finite_receiver *receiver, uint8_t *storage, size_t capacity,
     struct net_base_run *runs, size_t runs_length, uint64_t first) {
@@ -222,14 +228,14 @@ NET_BASE_MUST_USE static inline bool net_bound_finite_receiver_init(
     receiver->runs = runs; receiver->runs_length = runs_length;
     return true;
 }
-/** Returns whether this head, a storage of `capacity` bytes and runs are sound. */
+/** Returns whether head and runs are sound. */
 NET_BASE_MUST_USE static inline bool net_bound_finite_receiver_is_sound(
     const struct net_bound_finite_receiver *receiver) {
     return net_base_finite_receiver_is_sound(NET_BOUND_HEAD(receiver), NET_BOUND_CAPACITY(receiver),
         NET_BOUND_RUNS(receiver));
 }
 /** Returns whether the stream can end at `position`: it is the end that is known, or none is, and
- * it isn't below the first missing position or the end of a waiting range. */
+ * it isn't below the first missing position or the end of a waiting range. 2^64 - 1 is no end. */
 NET_BASE_MUST_USE static inline bool net_bound_finite_receiver_can_end(
     const struct net_bound_finite_receiver *receiver, uint64_t position) {
     return net_base_finite_receiver_can_end(NET_BOUND_HEAD(receiver), NET_BOUND_RUNS(receiver),
@@ -241,13 +247,14 @@ NET_BASE_MUST_USE static inline bool net_bound_finite_receiver_acknowledged(
     const struct net_bound_finite_receiver *receiver, uint64_t *number) {
     return net_base_finite_receiver_acknowledged(NET_BOUND_HEAD(receiver), number);
 }
-/** Returns whether all bytes were read, up to the end. */
+/** Returns whether all bytes were read, up to the end. Once it is so it stays so. */
 NET_BASE_MUST_USE static inline bool net_bound_finite_receiver_has_read_all(
     const struct net_bound_finite_receiver *receiver) {
     return net_base_finite_receiver_has_read_all(NET_BOUND_HEAD(receiver));
 }
 /** Copies bytes from the beginning of the queue to that of `into`, takes them off the queue, and
- * returns how many: as many as are queued and as `into` has room for. */
+ * returns how many: as many as are queued and as `into` has room for. The rest of `into` stays as
+ * it is. */
 NET_BASE_MUST_USE static inline size_t net_bound_finite_receiver_read(
     struct net_bound_finite_receiver *receiver, uint8_t *into, size_t into_length) {
     return net_bound_or_0(net_base_finite_receiver_read(NET_BOUND_HEAD(receiver),
@@ -261,15 +268,19 @@ NET_BASE_MUST_USE static inline bool net_bound_finite_receiver_remove(
         count);
 }
 /** Keeps the bytes of a segment, the first at `position`, that are in the free window and below the
- * end, and writes to `counts` how many. */
+ * end, and writes to `counts` how many. If it `is_last`, the stream ends after it. Returns
+ * `NET_BASE_SEGMENT_OTHER_END` if it can't end there, or else `NET_BASE_SEGMENT_TOO_MANY_RUNS` if
+ * it lacks the next missing byte and would make one waiting range too many; then nothing changes.
+ */
 NET_BASE_MUST_USE static inline enum net_base_segment_status net_bound_finite_receiver_segment(
     struct net_bound_finite_receiver *receiver, uint64_t position, const uint8_t *bytes,
     size_t bytes_length, bool is_last, struct net_base_kept_counts *counts) {
     return net_base_finite_receiver_segment(NET_BOUND_HEAD(receiver), NET_BOUND_STORAGE(receiver),
         NET_BOUND_RUNS(receiver), position, bytes, bytes_length, is_last, counts);
 }
-/** Writes the end of the free window to `end`, for what is announced, where the storage has
- * `capacity` bytes, and returns true. */
+/** Writes the end of the free window to `end`, and returns true. That is the first position that
+ * isn't kept, which you may announce. It is never below what
+ * `net_bound_finite_receiver_acknowledged` writes. */
 NET_BASE_MUST_USE static inline bool net_bound_finite_receiver_window_end(
     const struct net_bound_finite_receiver *receiver, uint64_t *end) {
     return net_base_finite_receiver_window_end(NET_BOUND_HEAD(receiver),
@@ -283,7 +294,8 @@ struct net_bound_receiving_end {
     size_t capacity; /**< How many elements that has. */
 };
 /** Makes `end` the receiving side of a connection, whose stream begins at position `first`, at
- * which nothing has arrived. */
+ * which nothing has arrived. The peer's segments have at most `segment_size` bytes, which is the
+ * MSS of your SYN. The storage may have any values. */
 NET_BASE_MUST_USE static inline bool net_bound_receiving_end_init(
     struct net_bound_receiving_end *end, uint8_t *storage, size_t capacity, uint64_t first,
     uint16_t segment_size) {
@@ -291,26 +303,33 @@ NET_BASE_MUST_USE static inline bool net_bound_receiving_end_init(
     end->storage = storage; end->capacity = capacity;
     return true;
 }
-/** Returns whether this head is sound over a storage of `capacity` bytes. */
+/** Returns whether this head is sound. */
 NET_BASE_MUST_USE static inline bool net_bound_receiving_end_is_sound(
     const struct net_bound_receiving_end *end) {
     return net_base_receiving_end_is_sound(NET_BOUND_HEAD(end), NET_BOUND_CAPACITY(end));
 }
 /** Begins again with a stream that begins at position `first`, and whose windows have this scale.
- */
+ * Writes to `window` what a SYN announces, which has no scale, and returns true. Pass the smallest
+ * scale for which `capacity >> scale` is at most 65535: a window is announced in whole units of `1
+ * << scale`. One above 14 counts as 14. */
 NET_BASE_MUST_USE static inline bool net_bound_receiving_end_open(
     struct net_bound_receiving_end *end, uint64_t first, uint8_t scale, uint16_t *window) {
     return net_base_receiving_end_open(NET_BOUND_HEAD(end), NET_BOUND_CAPACITY(end), first, scale,
         window);
 }
 /** Returns what to do with a segment that arrives after the peer's SYN, in the window that was
- * announced, whatever is free now. */
+ * announced, whatever is free now. It is as RFC 9293, section 3.10.7.4, has it; resets and SYNs
+ * are answered as RFC 5961 has it. While your window is shut, acknowledgements are taken all the
+ * same, so that two full ends hear of one another. Afterwards `net_bound_sending_end_acknowledged`
+ * tests what the segment acknowledges. */
 NET_BASE_MUST_USE static inline enum net_base_arrival_status net_bound_receiving_end_classify(
     const struct net_bound_receiving_end *end, const struct net_base_segment *segment) {
     return net_base_receiving_end_classify(NET_BOUND_HEAD(end), NET_BOUND_CAPACITY(end), segment);
 }
 /** Takes the bytes of a segment, the first at `position`, and the end if it `is_last`, writes to
- * `counts` how many were kept, and returns what `net_bound_finite_receiver_segment` does. */
+ * `counts` how many were kept, and returns what `net_bound_finite_receiver_segment` does. An
+ * acknowledgement is due for each second segment, and for one out of order, with the end, or not
+ * kept. One with neither bytes nor the end changes nothing. */
 NET_BASE_MUST_USE static inline enum net_base_segment_status net_bound_receiving_end_arrived(
     struct net_bound_receiving_end *end, uint64_t position, const uint8_t *bytes,
     size_t bytes_length, bool is_last, struct net_base_kept_counts *counts) {
@@ -326,28 +345,32 @@ NET_BASE_MUST_USE static inline bool net_bound_receiving_end_is_due(
     const struct net_bound_receiving_end *end) {
     return net_base_receiving_end_is_due(NET_BOUND_HEAD(end));
 }
-/** Returns whether an acknowledgement is to be sent within half a second (RFC 9293, 3.8.6.3), where
- * the storage has `capacity` bytes: a segment waits for one, or an update of the window is worth a
- * segment. */
+/** Returns whether an acknowledgement is to be sent within half a second (RFC 9293, 3.8.6.3): a
+ * segment waits for one, or an update of the window is worth a segment. Once all has arrived no
+ * update is. Ask it before you wait. A segment with bytes that you send in the meantime
+ * acknowledges too: ask again before you send one without. */
 NET_BASE_MUST_USE static inline bool net_bound_receiving_end_is_wanted(
     const struct net_bound_receiving_end *end) {
     return net_base_receiving_end_is_wanted(NET_BOUND_HEAD(end), NET_BOUND_CAPACITY(end));
 }
 /** Writes what a segment with bytes of its own tells, and returns true: the first missing position
- * to `next`, and to `window` the window, in units of the scale. */
+ * to `next`, and to `window` the window, in units of the scale. The end counts both as told, so
+ * send the segment. An acknowledgement that is due stays so: it lists ranges. */
 NET_BASE_MUST_USE static inline bool net_bound_receiving_end_announce(
     struct net_bound_receiving_end *end, uint64_t *next, uint16_t *window) {
     return net_base_receiving_end_announce(NET_BOUND_HEAD(end), NET_BOUND_CAPACITY(end), next,
         window);
 }
-/** Writes what a segment without bytes tells, and returns true. */
+/** Writes what a segment without bytes tells, and returns true. The end counts it as told, so send
+ * the segment. What came twice is told once. */
 NET_BASE_MUST_USE static inline bool net_bound_receiving_end_acknowledgement(
     struct net_bound_receiving_end *end, struct net_base_acknowledgement *acknowledgement) {
     return net_base_receiving_end_acknowledgement(NET_BOUND_HEAD(end), NET_BOUND_CAPACITY(end),
         acknowledgement);
 }
 /** Copies bytes from the beginning of the queue to that of `into`, takes them off the queue, and
- * returns how many: as many as are queued and as `into` has room for. */
+ * returns how many: as many as are queued and as `into` has room for. The rest of `into` stays as
+ * it is. */
 NET_BASE_MUST_USE static inline size_t net_bound_receiving_end_read(
     struct net_bound_receiving_end *end, uint8_t *into, size_t into_length) {
     return net_bound_or_0(net_base_receiving_end_read(NET_BOUND_HEAD(end), NET_BOUND_STORAGE(end),
@@ -361,7 +384,9 @@ struct net_bound_sending_end {
     size_t capacity; /**< How many elements that has. */
 };
 /** Makes `end` the sending side of a connection, whose stream begins at position `first`, and to
- * which nothing was written. */
+ * which nothing was written. `first_timeout` is the timeout, in microseconds, before any round
+ * trip was measured: 1,000,000 for TCP (RFC 6298, 2.1), as which 0 counts. In `bounds` zeros count
+ * as what the RFC says, but set `ack_delay`. The storage may have any values. */
 NET_BASE_MUST_USE static inline bool net_bound_sending_end_init(
     struct net_bound_sending_end *end, uint8_t *storage, size_t capacity, uint64_t first,
     uint64_t first_timeout, const struct net_base_timeout_bounds *bounds) {
@@ -369,13 +394,18 @@ NET_BASE_MUST_USE static inline bool net_bound_sending_end_init(
     end->storage = storage; end->capacity = capacity;
     return true;
 }
-/** Returns whether the end is sound over a storage of `capacity` bytes. */
+/** Returns whether the end is sound. */
 NET_BASE_MUST_USE static inline bool net_bound_sending_end_is_sound(
     const struct net_bound_sending_end *end) {
     return net_base_sending_end_is_sound(NET_BOUND_HEAD(end), NET_BOUND_CAPACITY(end));
 }
 /** Begins with a peer, whose SYN announced a window, how many bytes a segment may have, and whether
- * it reports blocks (SACK): one that doesn't couldn't answer a probe, and is sent none. */
+ * it reports blocks (SACK). Without SACK no probe is sent, as the peer couldn't answer it.
+ * `announcement.seq` is the SYN's position, and `announcement.ack` your first position, even if
+ * the SYN has no ACK. `segment_size` counts bytes of the stream alone: pass the peer's MSS less
+ * the options that each of your segments has (RFC 6691). What was written stays. It is done once,
+ * before anything is sent; a second time begins with another peer, and the timer runs if something
+ * is in flight. */
 NET_BASE_MUST_USE static inline bool net_bound_sending_end_open(
     struct net_bound_sending_end *end, const struct net_base_announcement *announcement,
     size_t segment_size, bool reports, int64_t now) {
@@ -383,12 +413,14 @@ NET_BASE_MUST_USE static inline bool net_bound_sending_end_open(
         segment_size, reports, now);
 }
 /** Returns whether a SYN is to be sent now, the first one or one after a timeout, and starts the
- * timer for the next. */
+ * timer for the next. Ask it only until your SYN is acknowledged: it doesn't test that. */
 NET_BASE_MUST_USE static inline bool net_bound_sending_end_is_opening_due(
     struct net_bound_sending_end *end, int64_t now) {
     return net_base_sending_end_is_opening_due(NET_BOUND_HEAD(end), NET_BOUND_CAPACITY(end), now);
 }
-/** Enables Nagle's rule (RFC 9293, 3.7.4), or disables it. */
+/** Enables Nagle's rule (RFC 9293, 3.7.4), or disables it. While something that was sent isn't
+ * acknowledged, less than a whole segment waits by it, unless the stream is closed or the timer
+ * has ended. It is enabled at first. */
 static inline void net_bound_sending_end_set_nagle_enabled(
     struct net_bound_sending_end *end, bool enabled) {
     net_base_sending_end_set_nagle_enabled(NET_BOUND_HEAD(end), enabled);
@@ -400,12 +432,12 @@ NET_BASE_MUST_USE static inline size_t net_bound_sending_end_write(
     return net_bound_or_0(net_base_sending_end_write(NET_BOUND_HEAD(end), NET_BOUND_STORAGE(end),
         bytes, bytes_length));
 }
-/** Ends the stream after what was written. */
+/** Ends the stream after what was written. A second call changes nothing. */
 static inline void net_bound_sending_end_close(struct net_bound_sending_end *end) {
     net_base_sending_end_close(NET_BOUND_HEAD(end));
 }
 /** Takes what a segment acknowledges and announces, and the blocks that it reports, as positions.
- */
+ * It `is_empty` if it has no byte and no FIN. Blocks of what wasn't sent say nothing. */
 NET_BASE_MUST_USE static inline struct net_base_taken_acknowledgement
 net_bound_sending_end_acknowledged(
     struct net_bound_sending_end *end, const struct net_base_announcement *announcement,
@@ -413,26 +445,31 @@ net_bound_sending_end_acknowledged(
     return net_base_sending_end_acknowledged(NET_BOUND_HEAD(end), NET_BOUND_CAPACITY(end),
         announcement, blocks, blocks_length, is_empty, now);
 }
-/** Returns whether the timer has ended, and what that means. */
+/** Returns whether the timer has ended, and what that means. If it has, it starts again, and
+ * `net_bound_sending_end_next_segment` says what is then to be sent. */
 NET_BASE_MUST_USE static inline struct net_base_ended_timer net_bound_sending_end_expired(
     struct net_bound_sending_end *end, int64_t now) {
     return net_base_sending_end_expired(NET_BOUND_HEAD(end), NET_BOUND_CAPACITY(end), now);
 }
 /** Returns whether the last recovery was spurious, and ends it then: nothing had been lost, since
- * all that was sent again came twice (RFC 3708), and the rest arrived. */
+ * all that was sent again came twice (RFC 3708), and the rest arrived. Then restore the congestion
+ * window of before the recovery. Ask it after each acknowledgement, an old one too. It is true at
+ * most once after each sign of congestion: a `begins` that is true, or `NET_BASE_EXPIRED_LOST`. */
 NET_BASE_MUST_USE static inline bool net_bound_sending_end_take_back(
     struct net_bound_sending_end *end) {
     return net_base_sending_end_take_back(NET_BOUND_HEAD(end), NET_BOUND_CAPACITY(end));
 }
 /** Returns the segment that is to be sent now, and counts it as sent: if the peer's window and the
- * congestion window have room for one, or as a probe. */
+ * congestion window have room for one, or as a probe. `congestion_window` is how many bytes may be
+ * in flight, but one segment may be, however small it is. Less than a whole segment may be held
+ * back (RFC 9293, 3.8.6.2.1, and Nagle's rule). */
 NET_BASE_MUST_USE static inline struct net_base_outgoing_segment net_bound_sending_end_next_segment(
     struct net_bound_sending_end *end, uint64_t congestion_window, int64_t now) {
     return net_base_sending_end_next_segment(NET_BOUND_HEAD(end), NET_BOUND_CAPACITY(end),
         congestion_window, now);
 }
 /** Returns where the bytes of a segment from `position` on, and below `limit`, are, in two parts,
- * and whether the stream ends after them. */
+ * and whether the stream ends after them. Of a position that is acknowledged there are none. */
 NET_BASE_MUST_USE static inline struct net_base_segment_parts net_bound_sending_end_bytes(
     const struct net_bound_sending_end *end, uint64_t position, uint64_t limit) {
     struct net_base_segment_parts found = net_base_sending_end_bytes(NET_BOUND_HEAD(end),
@@ -440,7 +477,7 @@ NET_BASE_MUST_USE static inline struct net_base_segment_parts net_bound_sending_
     found.from = net_bound_or_0(found.from);
     return found;
 }
-/** Returns whether all that was written is acknowledged, and the end. */
+/** Returns whether all that was written is acknowledged, and the end. Once it is so it stays so. */
 NET_BASE_MUST_USE static inline bool net_bound_sending_end_is_done(
     const struct net_bound_sending_end *end) {
     return net_base_sending_end_is_done(NET_BOUND_HEAD(end));

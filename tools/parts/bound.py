@@ -25,14 +25,15 @@ def wrapped(line):
 class Call:
     """A call of net_base.h over a head that has memory, as net_bound.h has it."""
 
-    def __init__(self, item, name, memory, structs):
-        self.item, self.memory, self.structs = item, memory, structs
+    def __init__(self, item, name, memory, library):
+        self.item, self.memory, self.structs = item, memory, library.structs
+        self.answer = library.answer(item.type)
         self.name, self.it = item.name.replace("net_base_", "net_bound_"), name.rpartition("_")[2]
         self.struct, self.is_init = f"struct net_bound_{name}", item.name == f"net_base_{name}_init"
         self.is_mutable = item.members[0].type.startswith("&mut")
         self.others = [it for it in item.members[1:] if it.name not in (*MEMORY, "capacity")]
         self.kind = ffi.c_type(item.type) if item.type else "void"
-        fields = [it.name for it in structs[item.type].members] if item.type in structs else []
+        fields = [it.name for it in self.structs[item.type].members] if item.type in self.structs else []
         self.is_place, self.is_span = "slot" in fields, "from" in fields and "slot" not in fields
 
     def parameters(self):
@@ -70,15 +71,19 @@ class Call:
 
     def text(self):
         must = "NET_BASE_MUST_USE " * ffi.must_use(self.item, self.structs)
-        # What it does is the first sentence of the comment in net_base.h, up to what a struct with its memory hides.
-        end = "[.:;]" if self.is_place or self.name.endswith("_is_sound") else "[.]"
-        does = re.match(rf"(.*?){end}(?=\s|$)", "\n".join(self.item.doc), flags=re.S)[1].replace("net_base_", "net_bound_")
+        # What it does is the comment in net_base.h, but for refusals and for what a struct with its memory hides.
+        told = [it for it in re.split(r"(?<=[.])\s+(?=[A-Z`#])", "\n".join(ffi.said(self.item.doc, self.answer)))
+                if not re.match(r"It\sis\srefused|# |`capacity` is|Head and runs|The head is", it)]
+        if self.is_place or self.name.endswith("_is_sound"):
+            told = [re.sub(r"[:;](?=\s).*", ".", told[0], flags=re.S)]
+        does = re.sub(r"\bthe head of | over a storage of `capacity` bytes|, which has `capacity` bytes", "",
+                      " ".join(told).replace("net_base_", "net_bound_"))
         does = re.sub(r"\b([Rr])eturns(?= where)", lambda it: "writes to `place`" if it[1] == "r" else "Writes to `place`",
                       does) if self.is_place else does
         head = f"{must}static inline {'bool' if self.is_place else self.kind} {self.name}("
         *before, head = head.rsplit(" ", 1) if len(head) > ffi.WIDTH else [head]
         rows = [row for line in self.body() for row in wrapped(line)]
-        return [*ffi.c_comment([f"{does}."], self.structs), *before, *ffi.filled(head, self.parameters(), ") {"), *rows, "}"]
+        return [*ffi.c_comment([does], self.structs), *before, *ffi.filled(head, self.parameters(), ") {"), *rows, "}"]
 
     def through(self):
         """A function with the parameters of the call of net_base.h that makes the one here, and the macro that has it
@@ -120,7 +125,7 @@ def memory_of(section):
 
 def calls(library):
     """The calls by kind."""
-    return {name: [Call(item, name, memory_of(section), library.structs) for item in section if item.kind == "fn"]
+    return {name: [Call(item, name, memory_of(section), library) for item in section if item.kind == "fn"]
             for _, section, name in library.sections if memory_of(section)}
 
 

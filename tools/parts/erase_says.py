@@ -124,12 +124,14 @@ def document(eraser):
         clauses = [j for j in range(begin, body) if tokens[j][0] == 'clause']
         if (pub is not None
             or re.search(r'\bfor\b|^(?:pub )?trait', header)) and clauses and not owner.endswith('Head'):
-            call = re.match(r'fn (\w+)\(&self\) -> \w+\s', eraser.source(k, begin))
+            call = re.match(r'fn (\w+)\(&self(?:, (\w+): \w+)?\) -> \w+\s', eraser.source(k, begin))
             shown.append((owner, k, head, clauses))
-            for j in clauses if call else ():     # what a call returns that takes `self` alone
+            for j in clauses if call else ():     # what a call returns that takes `self`, and one number at most
                 try:
                     value = said(tokens[j][1], 'result ≡ ')
-                    if value[1] == WHOLE and re.match(r'self\W', value[0]):
+                    if value[1] == WHOLE and call[2] and (of := re.fullmatch(rf'(\w+)\(self, {call[2]}\)', value[0])):
+                        calls.setdefault(owner, {})[of[1]] = call[1]
+                    elif value[1] == WHOLE and not call[2] and re.match(r'self\W', value[0]):
                         calls.setdefault(owner, {})[value[0][4:]] = call[1]
                 except Refused:
                     pass
@@ -147,6 +149,7 @@ def document(eraser):
                 eraser.refuse(tokens[k][2], refused)
             for value, call in sorted(calls.get(owner, {}).items(), key=lambda one: -len(one[0])):
                 text = re.sub(rf'(?<![\w.])(self|old\(self\)){re.escape(value)}(?![\w(])', rf'\1.{call}()', text)
+                text = re.sub(rf'(?<![\w.]){re.escape(value)}\((self|old\(self\)), ', rf'\1.{call}(', text)
             lines.append(f'\n{eraser.margin(head)}/// - {text}')
         if lines:
             lines[:0] = [f'\n{eraser.margin(head)}{line}'

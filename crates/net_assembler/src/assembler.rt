@@ -80,8 +80,7 @@ impl<const N: usize> Model for Assembler<N> {
 impl<const N: usize> Assembler<N> {
     /// Returns an empty assembler with room for `N` ranges.
     ///
-    /// smoltcp has only `new`, with as many ranges as its features say. In Rust `new` always has 4
-    /// here.
+    /// smoltcp has only `new`, whose room its features set. Here `new` has room for 4 ranges, whatever a feature says.
     ///
     /// ```
     /// # use net_base::storage::Assembler;
@@ -183,11 +182,11 @@ impl<const N: usize> Assembler<N> {
         AssemblerHead::fits(offset, size)
     }
 
-    /// Adds the `size` positions from `offset` on. In the guarantees `with_range` is the set with
-    /// these.
+    /// Adds the `size` positions from `offset` on. In the guarantees `with_range(a, offset, size)` is
+    /// what `a` has, and these positions.
     ///
-    /// It is inlined wherever it is called, so it is fast, and its code is large.
-    /// `add_then_remove_front` calls one shared function.
+    /// The call is inlined: fast, but large. Where code must be small take `add_then_remove_front`,
+    /// which calls one shared function.
     ///
     /// ```
     /// # use net_base::storage::Assembler;

@@ -1,4 +1,5 @@
-//! How often a segment is answered of which nothing is taken. Moments are in microseconds, of one clock.
+//! A limit of answers to segments of which nothing is taken (RFC 5961, section 7). Moments are in microseconds, of one
+//! clock.
 //!
 //! A limit of zeros allows an answer from moment 0 on.
 ghost use Rattle.std.specs.Prelude.{◌≡◌, ◌^◌, ◌-◌, negsuc};

@@ -24,9 +24,10 @@ pub(crate) fn has_number(receiver: &FiniteReceiverHead) -> bool
 }
 
 /// Keeps the bytes of a segment, the first at `position`, that are in the free window and below the end, and writes to
-/// `counts` how many. If it `is_last`, the stream ends after it. `NET_BASE_OTHER_END` if it can't end there, else
-/// `NET_BASE_TOO_MANY_RUNS` if it lacks the next missing byte and would make one waiting range too many. It is refused
-/// if the head isn't one over such storage and runs: `NET_BASE_REFUSED`. In these three cases nothing changes.
+/// `counts` how many. If it `is_last`, the stream ends after it. Returns `NET_BASE_OTHER_END` if it can't end there, or
+/// else `NET_BASE_TOO_MANY_RUNS` if it lacks the next missing byte and would make one waiting range too many; then
+/// nothing changes. It is refused if the head isn't one over such storage and runs: `NET_BASE_REFUSED`, and nothing
+/// changes.
 ///
 /// # Requires
 ///
@@ -79,8 +80,8 @@ pub extern "C" fn net_base_finite_receiver_segment(
     }
 }
 
-/// Writes the end of the free window to `end`, for what is announced, where the storage has `capacity` bytes, and
-/// returns true. It is never below what `net_base_finite_receiver_acknowledged` writes.
+/// Writes the end of the free window to `end`, and returns true. That is the first position that isn't kept, which you
+/// may announce. It is never below what `net_base_finite_receiver_acknowledged` writes.
 ///
 /// It is refused if more than `capacity` bytes are queued, or if that end or the position after the first missing one
 /// doesn't fit 64 bits: false, and nothing changes.

@@ -1,5 +1,5 @@
-//! Functions for C over memory that the caller keeps. There is no heap and no global state. Each export calls a
-//! function of a library here. It tests what that function needs, but for the duties below.
+//! Functions for C over memory that the caller keeps. There is no heap and no global state. Each call tests what it
+//! needs, but for the duties below, and then calls a proved function.
 //!
 //! # Memory
 //!
@@ -54,7 +54,7 @@
 //! - a status: its `NET_BASE_.._REFUSED`, which is never returned for anything else
 //! - `size_t`: `NET_BASE_NONE`
 //! - `uint64_t`: `UINT64_MAX`
-//! - `uint16_t`: 0, and only for such a pointer or `bool`
+//! - `uint16_t`: 0, for a null pointer or such a `bool` alone
 //! - a struct: the same in its first field, and in the others what the comment of the call says
 //! - `void`: nothing
 //!

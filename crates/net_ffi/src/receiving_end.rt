@@ -1,4 +1,4 @@
-//! The receiving end of a stream as one machine: a receiver of a stream that ends, the window that it announces, when
+//! The receiving side of a TCP connection: a receiver of a stream that ends, the window that it announces, when
 //! it acknowledges, and what an acknowledgement lists. A connection of TCP has one of these, one `SendingEnd` and one
 //! `AnswerLimit`. In the order of a connection:
 //! - Both directions have a *first position*, which `.._init` and `.._open` are passed: that of the first byte after
@@ -468,10 +468,10 @@ pub extern "C" fn net_base_receiving_end_is_due(end: &ReceivingEnd) -> bool
     end.head.is_due()
 }
 
-/// Returns whether an acknowledgement is to be sent within half a second (RFC 9293, 3.8.6.3), where the storage has
-/// `capacity` bytes: a segment waits for one, or an update of the window is worth a segment. Once all has arrived no
-/// update is. Ask it before you wait. A segment with bytes that you send in the meantime acknowledges too: ask again
-/// before you send one without.
+/// Returns whether an acknowledgement is to be sent within half a second (RFC 9293, 3.8.6.3): a segment waits for one,
+/// or an update of the window is worth a segment. `capacity` is how many bytes the storage has. Once all has arrived
+/// no update is. Ask it before you wait. A segment with bytes that you send in the meantime acknowledges too: ask
+/// again before you send one without.
 ///
 /// It is refused if `end` isn't one over `capacity` bytes: false.
 ///

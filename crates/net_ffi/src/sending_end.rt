@@ -1,18 +1,17 @@
-//! The sending end of a stream as one machine: a sender of a stream that ends, what the peer has reported, what is
+//! The sending side of a TCP connection: a sender of a stream that ends, what the peer has reported, what is
 //! lost, the timer, and the peer's window. A program needs few of the fields below: it fills in `TimeoutBounds`, and
 //! net_bound.h has calls that read those of `sender`. All others, such as those of `LossRecovery`, are for the calls
 //! alone, and may differ in the next version.
 //!
 //! A head of zeros is new, of a stream that begins at position 0, whose first timeout is 1 second within the RFC's
 //! bounds. All of an end is in its head but the bytes: at most 16 ranges are remembered of what was reported, enough
-//! for windows of 128 segments on paths that lose or reorder. `net_base_sending_end_write` alone is passed the storage: others
-//! need at most its capacity. When the peer's SYN has come, `net_base_sending_end_open` begins with it. What a segment
-//! acknowledges, pass to `net_base_sending_end_acknowledged`. `net_base_sending_end_next_segment` says what to send,
-//! until it says that nothing is, and `net_base_sending_end_bytes` where that is. At the moment that
+//! for windows of 128 segments on paths that lose or reorder. `net_base_sending_end_write` alone is passed the storage:
+//! others need at most its capacity. When the peer's SYN has come, `net_base_sending_end_open` begins with it. What a
+//! segment acknowledges, pass to `net_base_sending_end_acknowledged`. `net_base_sending_end_next_segment` says what to
+//! send, until it says that nothing is, and `net_base_sending_end_bytes` where that is. At the moment that
 //! `net_base_sending_end_expires_at` writes, call `net_base_sending_end_expired`.
 //!
-//! A number whose flag is false doesn't count, whatever it is. A timeout of 0 that counts passes at once, and then
-//! becomes the least one; no call writes such a timeout.
+//! A number whose flag is false doesn't count, whatever it is.
 
 // Why: The rules are those of `SendingHead`, over runs that are lent. An end of C lends the 16 in its struct, so that
 // all of it but the bytes is one struct. Each flag and each number of the head has a meaning. So
@@ -397,8 +396,9 @@ fn new_end(first: u64, first_timeout: u64, bounds: &TimeoutBounds) -> SendingEnd
 }
 
 /// Makes `end` the sending side of a connection, whose stream begins at position `first`, and to which nothing was
-/// written. `first_timeout` is that before any sample: 1 second for TCP (RFC 6298, 2.1), as which 0 counts. The storage
-/// may have any values.
+/// written. `first_timeout` is the timeout, in microseconds, before any round trip was measured: 1,000,000 for TCP (RFC
+/// 6298, 2.1), as which 0 counts. In `bounds` zeros count as what the RFC says, but set `ack_delay`. The storage may
+/// have any values.
 ///
 /// It is refused if `first` is `u64::MAX`, since an end there would have no number after it: false, and nothing
 /// changes.
@@ -434,7 +434,7 @@ pub extern "C" fn net_base_sending_end_is_sound(end: &SendingEnd, capacity: usiz
 }
 
 /// Begins with a peer, whose SYN announced a window, how many bytes a segment may have, and whether it reports blocks
-/// (SACK): one that doesn't couldn't answer a probe, and is sent none. `announcement.seq` is the SYN's position, and
+/// (SACK). Without SACK no probe is sent, as the peer couldn't answer it. `announcement.seq` is the SYN's position, and
 /// `announcement.ack` your first position, even if the SYN has no ACK. `segment_size` counts bytes of the stream alone:
 /// pass the peer's MSS less the options that each of your segments has (RFC 6691). What was written stays. It is done
 /// once, before anything is sent; a second time begins with another peer, and the timer runs if something is in flight.
@@ -627,8 +627,8 @@ pub extern "C" fn net_base_sending_end_expired(
 
 /// Returns whether the last recovery was spurious, and ends it then: nothing had been lost, since all that was sent
 /// again came twice (RFC 3708), and the rest arrived. Then restore the congestion window of before the recovery. Ask it
-/// after each acknowledgement, an old one too. It is true at most once after each sign of congestion: a `begins` that is
-/// true, or `NET_BASE_EXPIRED_LOST`.
+/// after each acknowledgement, an old one too. It is true at most once after each sign of congestion: a `begins` that
+/// is true, or `NET_BASE_EXPIRED_LOST`.
 ///
 /// It is refused if `end` isn't sound over `capacity` bytes: false, and nothing changes.
 #[unsafe(no_mangle)]

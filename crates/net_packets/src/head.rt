@@ -25,10 +25,9 @@ use net_ring::RingHead;
 
 /// The head of a packet queue: the heads of its two rings.
 ///
-/// A packet uses one slot, and a gap one more, before it. A head is sound for storages if its heads are
-/// sound for them, as [`is_sound`](PacketsHead::is_sound) tells. The other calls require a head that is
-/// sound for the number of slots and of bytes that they take, and leave such a head. smoltcp has no
-/// such type.
+/// A packet uses one slot, and a gap one more, before it. A head is sound for storages if its heads are sound for them,
+/// as [`is_sound`](PacketsHead::is_sound) tells. The other calls require a head that is sound for the number of slots
+/// and of bytes that they take, and leave such a head. smoltcp has no such type.
 #[repr(C)]
 #[derive(Debug, Clone, Copy)]
 pub struct PacketsHead {

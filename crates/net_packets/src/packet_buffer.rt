@@ -60,7 +60,8 @@ pub struct PacketsOver<H, M: Storage<PacketMetadata<H>>, B: Storage<u8>> {
 /// let mut queue = PacketBuffer::new(&mut slots[..], &mut bytes[..]);
 /// queue.enqueue(3, 53u16)?.copy_from_slice(b"abc");
 /// assert_eq!(queue.enqueue(14, 54), Err(Full));
-/// assert_eq!(queue.dequeue(), Ok((53, &mut b"abc"[..].to_vec()[..])));
+/// let (port, payload) = queue.dequeue().expect("a packet is queued");
+/// assert!(port == 53 && payload == b"abc");
 /// # Ok::<(), Full>(())
 /// ```
 pub type PacketBuffer<'a, H> = PacketsOver<

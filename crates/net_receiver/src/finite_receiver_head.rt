@@ -283,9 +283,9 @@ impl FiniteReceiverHead {
         }
     }
 
-    /// Returns whether this head, a storage of `capacity` bytes and runs are sound: they are those of
-    /// a receiver, and the position after its last byte, held ones too, is at most the end, if that
-    /// is known, and below 2^64 - 1. It looks at each held run, and at no byte.
+    /// Returns whether this head, a storage of `capacity` bytes and runs are sound: they are those of a receiver, and
+    /// the position after its last byte, held ones too, is at most the end, if that is known, and below 2^64 - 1. It
+    /// looks at each held run, and at no byte.
     pub fn is_sound(&self, capacity: usize, runs: &[Run]) -> bool
         ensures { IsTrue result ↔ HasSoundFinite self.now capacity runs.now }
     {

@@ -555,8 +555,8 @@ impl<S: Storage<u8>> FiniteSenderOver<S> {
         let _ = &self.head;
     }
 
-    /// Lends the bytes of a range, in two parts, and returns whether the stream ends after them, as `peek_at` does up
-    /// to the storage's end. It lends none if the range begins below `first_number`.
+    /// Lends the bytes of a range in two parts, where `peek_at` lends those up to the storage's end. The result's `fin`
+    /// is whether the stream ends after them. It lends none if the range begins below `first_number`.
     ///
     /// ```
     /// # use net_base::finite::FiniteSender;

@@ -55,10 +55,9 @@ impl FiniteSenderHead {
         }
     }
 
-    /// Returns whether this head is sound for a storage of `capacity` bytes: `sender.place` is that
-    /// of a ring of as many; `closed` and `finished` are 0 or 1, and `finished` is 1 only if `closed`
-    /// is and the queue is empty; and `sent` is from the first number that isn't acknowledged up to
-    /// the number after the last one, which fits 64 bits.
+    /// Returns whether this head is sound for a storage of `capacity` bytes: `sender.place` is that of a ring of as
+    /// many; `closed` and `finished` are 0 or 1, and `finished` is 1 only if `closed` is and the queue is empty; and
+    /// `sent` is from the first number that isn't acknowledged up to the number after the last one, which fits 64 bits.
     pub fn is_sound(&self, capacity: usize) -> bool
         ensures { IsTrue result ↔ IsSoundFiniteSender capacity self.now }
     {

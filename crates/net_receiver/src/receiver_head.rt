@@ -506,13 +506,12 @@ impl ReceiverHead {
     /// Lists held runs at the beginning of `into`, the newest first, and returns how many: as many
     /// as are held, or as `into` has elements. The rest of `into` stays as it is.
     ///
-    /// The first is the run that has `position`, that of the segment just taken, if it is held;
-    /// then come the runs that have the positions in `recent`, in their order, and then the others,
-    /// in rising order; each comes once. The call writes the starts of the runs that it lists to
-    /// the beginning of `recent`, as many as there is room for. The caller sets `recent` to zeros
-    /// before the first call, and doesn't change it afterwards. It is enough if `recent` and `into`
-    /// have as many elements in each call as the longest acknowledgement has SACK blocks; a shorter
-    /// one has the first of them. RFC 2018, section 4, wants this order. Each run that is listed is found by a search.
+    /// The first is the run that has `position`, that of the segment just taken, if it is held; then come the runs that
+    /// have the positions in `recent`, in their order, and then the others, in rising order; each comes once. The call
+    /// writes the starts of the runs that it lists to the beginning of `recent`, as many as there is room for. The
+    /// caller sets `recent` to zeros before the first call, and doesn't change it afterwards. It is enough if `recent`
+    /// and `into` have as many elements in each call as the longest acknowledgement has SACK blocks; a shorter one has
+    /// the first of them. RFC 2018, section 4, wants this order. Each run that is listed is found by a search.
     ///
     /// # Requires
     ///

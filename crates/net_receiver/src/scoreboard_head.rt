@@ -49,9 +49,9 @@ pub enum ReportError {
 /// beyond, counted from `base`. The slice's length is the most runs that are stored. In contracts
 /// `reported_by` is the set of the reported positions.
 ///
-/// A scoreboard is *sound* with runs if its assembler is, if `base` isn't reported, and if each end is
-/// a number of 64 bits, as `is_sound` tests. smoltcp has no such type: its TCP socket sends again from
-/// the first unacknowledged position on.
+/// A scoreboard is *sound* with runs if its assembler is, if `base` isn't reported, and if each end is a number of 64
+/// bits, as `is_sound` tests. smoltcp has no such type: its TCP socket sends again from the first unacknowledged
+/// position on.
 #[repr(C)]
 #[derive(Debug, Clone, Copy)]
 pub struct ScoreboardHead {

@@ -375,8 +375,8 @@ impl<S: Storage<u8>, R: Storage<Run>> SendBufferOver<S, R> {
         self.ranges.close();
     }
 
-    /// Lends the bytes of a range, in two parts, and returns whether the stream ends after them. It lends none if the
-    /// range begins below `numbers().first_unacknowledged`. Bytes acknowledged out of order are lent too.
+    /// Lends the bytes of a range in two parts. The result's `fin` is whether the stream ends after them. It lends none
+    /// if the range begins below `numbers().first_unacknowledged`. Bytes acknowledged out of order are lent too.
     ///
     /// ```
     /// # use net_base::finite::SendBuffer;
@@ -477,10 +477,9 @@ impl<S: Storage<u8>, R: Storage<Run>> SendBufferOver<S, R> {
     /// Marks a range as sent: it is in flight, and no longer lost. Returns false, and changes nothing, if the range is
     /// empty or ends above `numbers_end`.
     ///
-    /// Pass what `next` returned, or the first part of it: for that there is always room. What was sent before may be
-    /// marked again, as for a probe. A range above a gap that was never
-    /// marked declares the gap lost. If there is no room for another range, what was lost or unsent stays so, and is sent again. The call
-    /// doesn't report that: make room as [`SendRangesOver`] says, or grow when `acknowledge` sets `sent_again`.
+    /// Pass what `next` returned, or the first part of it: for that there is always room. If you mark a range above
+    /// positions that were never sent, these count as lost. If there is no room for another range, what was lost or
+    /// unsent stays so, and is sent again. The call doesn't report that: make room as [`SendRangesOver`] says.
     ///
     /// ```
     /// # use net_base::finite::SendBuffer;
@@ -528,8 +527,9 @@ impl<S: Storage<u8>, R: Storage<Run>> SendBufferOver<S, R> {
     /// The room of its bytes is free once all before them are acknowledged.
     ///
     /// A range that begins above the first unacknowledged position isn't remembered if that would make more than
-    /// `most_runs` ranges: it is lost then, and `sent_again` is set. The same is true of a range that ends
-    /// 2^32 positions or more above that first one, where growing doesn't help. An old acknowledgement is no error: `new` is 0.
+    /// `most_runs` ranges: it is lost then, and `sent_again` is set. The same is true of a range that ends 2^32
+    /// positions or more above that first one, where growing doesn't help. An old acknowledgement is no error: `new` is
+    /// 0.
     ///
     /// ```
     /// # use net_base::finite::{NotSent, SendBuffer};

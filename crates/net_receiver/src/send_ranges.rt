@@ -89,13 +89,12 @@ pub struct NotSent;
 ///
 /// There are two storages of ranges (*runs*, in names), with room for `most_runs` each. `acknowledged` stores ranges
 /// that were acknowledged out of order, `sent` those in flight above the first lost byte. Where one has no room, some
-/// positions are sent twice, but none is forgotten. So if each marked range is acknowledged or lost at last, all that
-/// was written is acknowledged in the end.
+/// positions are sent twice, but none is forgotten: each is acknowledged, in flight, or offered again by `next`. With
+/// no room at all, a loss loses all that was sent from there on.
 ///
 /// Room for half as many ranges as packets sent from the first unacknowledged byte on is always enough, and mostly less
-/// is. With less, some bytes are sent twice. With none, a loss loses all that was sent from there on, and what is
-/// acknowledged out of order is sent again. `acknowledge` sets `sent_again` where it has no room: a caller whose
-/// storages can grow calls `grow_runs` then.
+/// is. If the storages can grow, count the calls of `lose` since `next` last returned new bytes, and call `grow_runs`
+/// before there are more of them than `most_runs`. If `acknowledge` sets `sent_again`, grow, and call it once more.
 ///
 /// No call allocates.
 pub struct SendRangesOver<R: Storage<Run>> {
@@ -531,8 +530,8 @@ impl<R: Storage<Run>> SendRangesOver<R> {
     /// limit is lost or unsent.
     ///
     /// The FIN of a closed stream comes with the last bytes, or alone if these were sent before. It counts neither
-    /// towards `size` nor towards `limit`. A range is lost as a whole, or new as a whole. A loop that marks what `next`
-    /// returns ends.
+    /// towards `size` nor towards `limit`. No range has both lost and new bytes. A loop that marks what `next` returns
+    /// ends.
     ///
     /// ```
     /// # use net_base::finite::SendRanges;
@@ -552,6 +551,12 @@ impl<R: Storage<Run>> SendRangesOver<R> {
         ensures some { IfSome result (λ r.
             IsNext self.now (data_top self.now limit) (max 1 size) r.start r.end) }
         ensures none { result ≡ None → NoneIsOpenBelow self.now (data_top self.now limit) }
+        // Guarantee.
+        ensures range { IfSome result (λ range. (range.start < range.end)
+            × (range.end ≤ end_number self.now)) }
+        // Guarantee.
+        ensures rest { (p : ℕ) → result ≡ None → p < limit → p < end_number self.now →
+            IsFalse (is_open self.now p) }
     {
         let end = self.written;
         let top = if end <= limit {
@@ -589,10 +594,9 @@ impl<R: Storage<Run>> SendRangesOver<R> {
     /// Marks a range as sent: it is in flight, and no longer lost. Returns false, and changes nothing, if the range is
     /// empty or ends above `numbers_end`.
     ///
-    /// Pass what `next` returned, or the first part of it: for that there is always room. What was sent before may be
-    /// marked again, as for a probe. A range above a gap that was never
-    /// marked declares the gap lost. If there is no room for another range, what was lost or unsent stays so, and is sent again. The call
-    /// doesn't report that: make room as [`SendRangesOver`] says, or grow when `acknowledge` sets `sent_again`.
+    /// Pass what `next` returned, or the first part of it: for that there is always room. If you mark a range above
+    /// positions that were never sent, these count as lost. If there is no room for another range, what was lost or
+    /// unsent stays so, and is sent again. The call doesn't report that: make room as [`SendRangesOver`] says.
     ///
     /// ```
     /// # use net_base::finite::SendRanges;
@@ -645,8 +649,9 @@ impl<R: Storage<Run>> SendRangesOver<R> {
     /// Marks a range as acknowledged, when its packet is. Whether it was in flight or lost, none of it is sent again.
     ///
     /// A range that begins above the first unacknowledged position isn't remembered if that would make more than
-    /// `most_runs` ranges: it is lost then, and `sent_again` is set. The same is true of a range that ends
-    /// 2^32 positions or more above that first one, where growing doesn't help. An old acknowledgement is no error: `new` is 0.
+    /// `most_runs` ranges: it is lost then, and `sent_again` is set. The same is true of a range that ends 2^32
+    /// positions or more above that first one, where growing doesn't help. An old acknowledgement is no error: `new` is
+    /// 0.
     ///
     /// ```
     /// # use net_base::finite::{NotSent, SendRanges};
@@ -723,9 +728,8 @@ impl<R: Storage<Run>> SendRangesOver<R> {
     /// of it is sent again. Ranges may be lost in any order. Returns false, and changes nothing, if the range ends
     /// above what was sent.
     ///
-    /// A loss in the middle of a range in flight leaves two ranges. If there is no room for one more, the shorter of
-    /// the two is lost too. The call doesn't report that: make room as [`SendRangesOver`] says, or grow when
-    /// `acknowledge` sets `sent_again`.
+    /// A loss in the middle of a range in flight leaves two ranges. If there is no room for one more, some of what is
+    /// in flight beside it is lost too. The call doesn't report that: make room as [`SendRangesOver`] says.
     ///
     /// ```
     /// # use net_base::finite::SendRanges;

@@ -5,7 +5,7 @@
 // is the exception. Each part but a lone one joins a held run, so no refusal comes between the parts of a segment.
 #![tactic(auto)]
 
-ghost use Rattle.std.specs.Prelude.{◌≡◌, ◌≤◌, ◌<◌, ◌-◌, ◌+◌, ◌^◌, length, Some, None, Err, IsTrue, IsFalse, min};
+ghost use Rattle.std.specs.Prelude.{◌≡◌, ◌≤◌, ◌<◌, ◌-◌, ◌+◌, ◌^◌, length, Some, None, Err, OnErr, IsTrue, IsFalse, min};
 ghost use Rattle.std.specs.Prelude.{List, ℕ, ◌==◌};
 ghost use Rattle.net_assembler.specs.Positions.{contains, first_missing, maximal_runs};
 ghost use Rattle.net_assembler.specs.RunLists.{HasSoundRuns, set_of};
@@ -213,7 +213,8 @@ impl<R: Storage<Run>> StreamRangesOver<R> {
     /// Keeps the first new part of a segment, and returns it: `None` if none of the segment is new.
     ///
     /// A position is new if it is in the free window, below the end, and in no part yet. `fin` says that the stream
-    /// ends at the range's end. An end above `window_end` is left out, and must be sent again.
+    /// ends at the range's end, which may have no new position. A FIN above `window_end` isn't kept, and has to come
+    /// again.
     ///
     /// Call it until it returns `None`, since waiting ranges can divide the segment. Only the first of these calls can
     /// return an error. An empty or reversed range has no position.
@@ -233,10 +234,12 @@ impl<R: Storage<Run>> StreamRangesOver<R> {
     /// # Errors
     ///
     /// `OtherEnd` if the stream can't end there, as `can_end` tells. Else `TooManyHoles` if the part would make too
-    /// many waiting ranges, which one that begins at `next` never does. Nothing changes then.
+    /// many waiting ranges; a part that begins at `next` never does. After an error nothing has changed.
     #[inline]
     pub fn keep(&mut self, range: Range<u64>, fin: bool) -> Result<Option<Range<u64>>, FiniteError>
-        ensures { KeepsNew self.old range.start range.end fin result self.new }
+        ensures kept { KeepsNew self.old range.start range.end fin result self.new }
+        // Guarantee.
+        ensures unchanged { OnErr result (self.new ≡ self.old) }
     {
         let count = self.runs.count();
         let runs = self.runs.part_mut(0, count);

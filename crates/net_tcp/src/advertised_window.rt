@@ -81,9 +81,9 @@ impl AdvertisedWindow {
         classify(next, self.edge.saturating_sub(next), capacity, segment)
     }
 
-    /// Returns the number to announce, in units of 2^`scale`, if `next` is the first missing position
-    /// and `window_end` the end of the free room: the greatest that doesn't promise more than there
-    /// is. In a segment with a SYN the scale is 0. A scale above 14 counts as 14 (RFC 7323, section 2.3).
+    /// Returns the number to announce, in units of 2^`scale`, if `next` is the first missing position and `window_end`
+    /// the end of the free room: the greatest that doesn't promise more than there is. In a segment with a SYN the
+    /// scale is 0. A scale above 14 counts as 14 (RFC 7323, section 2.3).
     ///
     /// No number keeps a promise whose rest is not a multiple of the unit, unless there is room up to the
     /// next multiple: at one scale the number may then be less than what was promised, by less than a

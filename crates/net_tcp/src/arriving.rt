@@ -146,14 +146,14 @@ fn is_heard(next: u64, window: u64, greatest_window: u64, seq: u64, len: u64) ->
 /// 5961 has it: a reset counts only at `next`. One right after the window is answered too, as in Linux: a peer that
 /// has filled the window resets there, and its next reset is then at `next`.
 ///
-/// No position is in a window that is shut. Of a segment with positions that begins at `next` then, as
-/// a probe does, the acknowledgement is taken all the same: otherwise two ends that both fill the
-/// other's window never hear of one another. So it is of a segment without positions whose number is below
-/// `next`, by `greatest_window` at most, and by one if that is 0. No honest peer's number is below that: it
-/// is not below what was acknowledged to the peer, which has no more than such a window on the way, or a probe.
-/// If all of the window is on the way, and some of it is missing, its number is the one after the window:
-/// that is taken too. By law `acknowledgements` (`docs/laws.md`) no other number is needed. Otherwise two ends whose
-/// acknowledgements were lost, or came in another order, may refuse one another's for ever, and answer each.
+/// No position is in a window that is shut. Of a segment with positions that begins at `next` then, as a probe does,
+/// the acknowledgement is taken all the same: otherwise two ends that both fill the other's window never hear of one
+/// another. So it is of a segment without positions whose number is below `next`, by `greatest_window` at most, and by
+/// one if that is 0. No honest peer's number is below that: it is not below what was acknowledged to the peer, which
+/// has no more than such a window on the way, or a probe. If all of the window is on the way, and some of it is
+/// missing, its number is the one after the window: that is taken too. By law `acknowledgements` (`docs/laws.md`) no
+/// other number is needed. Otherwise two ends whose acknowledgements were lost, or came in another order, may refuse
+/// one another's for ever, and answer each.
 ///
 /// Whether a segment may acknowledge what it does is tested afterwards, by `is_acknowledgement`.
 ///

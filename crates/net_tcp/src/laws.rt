@@ -239,9 +239,9 @@ pub fn arrivals()
 
 /// States when a recovery is taken back: not as it begins, where the first position is missing (`begins`); nor once
 /// something was sent again in it (`sent`), until as many positions came twice (`twice`); and when it is, it has ended,
-/// and isn't taken back again (`once`). It is taken back only after a sign of congestion (`congestion`). A stall is none
-/// (`stalled`). A timeout is one, and of the other calls those that return that a recovery begins (`reported`, `silent`,
-/// `dropped`), and no others (`others`). So no recovery is taken back of which the caller wasn't told.
+/// and isn't taken back again (`once`). It is taken back only after a sign of congestion (`congestion`). A stall is
+/// none (`stalled`). A timeout is one, and of the other calls those that return that a recovery begins (`reported`,
+/// `silent`, `dropped`), and no others (`others`). So no recovery is taken back of which the caller wasn't told.
 #[tactic(auto, using(crate::proofs::Wrongs::wrongs))]
 pub fn take_backs()
     ensures begins { (first sent lost : ℕ) (s : Positions) (r : Recovery) →

@@ -1,7 +1,6 @@
-//! Small machines that a TCP needs beside its two queues: the test of an
-//! arriving segment, the windows of both sides, the time until a retransmission, its timer, and what is
-//! sent next where segments are lost. They store no bytes: a recovery is given the sender's numbers and the
-//! scoreboard.
+//! Small machines that a TCP needs beside its two queues: the test of an arriving segment, the windows of both sides,
+//! the time until a retransmission, its timer, and what is sent next where segments are lost. They store no bytes: a
+//! recovery is given the sender's numbers and the scoreboard.
 #![tactic(auto)]
 
 pub mod advertised_window;

@@ -1,5 +1,5 @@
-//! The tests of `net_ring`, `net_packets`, `net_assembler`, `net_base`, `net_receiver` and `net_bench_lib`, each through
-//! its public calls.
+//! The tests of `net_ring`, `net_packets`, `net_assembler`, `net_base`, `net_receiver` and `net_bench_lib`, each
+//! through its public calls.
 //!
 //! They are in a crate of their own, so that crates that use these libraries don't wait for them, and link nothing that
 //! only tests need. Calls that are drawn are of the erased text, in `rust/tests`.

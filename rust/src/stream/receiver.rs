@@ -106,7 +106,7 @@ impl<S: Storage<u8>, const N: usize> ReceiverOver<S, N> {
     /// ```
     /// # use net_base::receiver::ReceiverOver;
     /// let mut receiver = ReceiverOver::<_, 4>::over([0u8; 16]);
-    /// assert!(receiver.segment(0, b"abc").is_ok());
+    /// assert!(receiver.keep(0, b"abc").is_ok());
     /// assert_eq!(receiver.into_storage().len(), 16);
     /// ```
     #[must_use]
@@ -121,7 +121,7 @@ impl<S: Storage<u8>, const N: usize> ReceiverOver<S, N> {
     /// # use net_base::receiver::Receiver;
     /// # let mut storage = [0u8; 16];
     /// # let mut receiver = Receiver::<4>::new(&mut storage[..]);
-    /// assert!(receiver.segment(0, b"abc").is_ok());
+    /// assert!(receiver.keep(0, b"abc").is_ok());
     /// receiver.reset_at(7);
     /// assert_eq!((receiver.next(), receiver.queued()), (7, 0));
     /// ```
@@ -138,12 +138,12 @@ impl<S: Storage<u8>, const N: usize> ReceiverOver<S, N> {
     /// ```
     /// # use net_base::receiver::Receiver;
     /// let mut receiver = Receiver::<4>::new(vec![0; 4]);
-    /// assert!(receiver.segment(0, b"ab").is_ok() && receiver.segment(3, b"d").is_ok());
+    /// assert!(receiver.keep(0, b"ab").is_ok() && receiver.keep(3, b"d").is_ok());
     /// assert_eq!(receiver.window_end(), Some(4));
     /// receiver.grow(vec![0; 16].into());
     /// assert_eq!((receiver.queued(), receiver.window(), receiver.window_end()), (2, 14, Some(16)));
     /// assert!(receiver.held().eq([(3, 4)]));
-    /// assert_eq!(receiver.segment(2, b"c").map(|it| it.queued), Ok(2));
+    /// assert_eq!(receiver.keep(2, b"c").map(|it| it.queued), Ok(2));
     /// ```
     ///
     /// # Panics
@@ -173,8 +173,9 @@ impl<S: Storage<u8>, const N: usize> ReceiverOver<S, N> {
         len as u64 <= u64::MAX - pos
     }
 
-    /// Keeps the bytes of a segment as `keep` does, and also lists the first three waiting ranges, as TCP's SACK blocks
-    /// need them. It panics unless the segment `fits`: for bytes from a packet take `keep`, which requires nothing.
+    /// Keeps the bytes of a segment as `keep` does, and also lists the first three waiting ranges, in rising order. It
+    /// panics unless the segment `fits`: for bytes from a packet take `keep`, which requires nothing. TCP's SACK blocks
+    /// begin with the newest range, as `newest_runs` does.
     ///
     /// ```
     /// # use net_base::receiver::Receiver;
@@ -281,7 +282,7 @@ impl<S: Storage<u8>, const N: usize> ReceiverOver<S, N> {
     /// # use net_base::receiver::Receiver;
     /// # let mut storage = [0u8; 16];
     /// # let mut receiver = Receiver::<4>::new(&mut storage[..]);
-    /// assert!(receiver.segment(0, b"abc").is_ok());
+    /// assert!(receiver.keep(0, b"abc").is_ok());
     /// let mut into = *b"--";
     /// assert_eq!((receiver.read(&mut into), &into, receiver.queued()), (2, b"ab", 1));
     /// ```
@@ -302,7 +303,7 @@ impl<S: Storage<u8>, const N: usize> ReceiverOver<S, N> {
     /// # use net_base::receiver::Receiver;
     /// # let mut storage = [0u8; 16];
     /// # let mut receiver = Receiver::<4>::new(&mut storage[..]);
-    /// assert!(receiver.segment(0, b"abc").is_ok());
+    /// assert!(receiver.keep(0, b"abc").is_ok());
     /// let mut into = *b"--";
     /// assert_eq!((receiver.peek_slice(&mut into), &into, receiver.queued()), (2, b"ab", 3));
     /// ```
@@ -324,7 +325,7 @@ impl<S: Storage<u8>, const N: usize> ReceiverOver<S, N> {
     /// # use net_base::receiver::Receiver;
     /// # let mut storage = [0u8; 16];
     /// # let mut receiver = Receiver::<4>::new(&mut storage[..]);
-    /// assert!(receiver.segment(0, b"abc").is_ok());
+    /// assert!(receiver.keep(0, b"abc").is_ok());
     /// assert_eq!(receiver.peek(1, 9), b"bc");
     /// ```
     ///
@@ -346,9 +347,9 @@ impl<S: Storage<u8>, const N: usize> ReceiverOver<S, N> {
     /// # use net_base::receiver::Receiver;
     /// # let mut storage = [0u8; 4];
     /// # let mut receiver = Receiver::<4>::new(&mut storage[..]);
-    /// assert!(receiver.segment(0, b"abc").is_ok());
+    /// assert!(receiver.keep(0, b"abc").is_ok());
     /// assert_eq!(receiver.read(&mut [0; 2]), 2);
-    /// assert!(receiver.segment(3, b"def").is_ok());
+    /// assert!(receiver.keep(3, b"def").is_ok());
     /// assert_eq!(receiver.as_slices(), (&b"cd"[..], &b"ef"[..]));
     /// ```
     ///
@@ -369,7 +370,7 @@ impl<S: Storage<u8>, const N: usize> ReceiverOver<S, N> {
     /// # use net_base::receiver::Receiver;
     /// # let mut storage = [0u8; 16];
     /// # let mut receiver = Receiver::<4>::new(&mut storage[..]);
-    /// assert!(receiver.segment(0, b"abc").is_ok());
+    /// assert!(receiver.keep(0, b"abc").is_ok());
     /// assert_eq!(receiver.read_with(|bytes| (2, bytes.len())), (2, 3));
     /// assert_eq!(receiver.peek(0, 9), b"c");
     /// ```
@@ -394,7 +395,7 @@ impl<S: Storage<u8>, const N: usize> ReceiverOver<S, N> {
     /// # use net_base::receiver::Receiver;
     /// # let mut storage = [0u8; 16];
     /// # let mut receiver = Receiver::<4>::new(&mut storage[..]);
-    /// assert!(receiver.segment(0, b"abc").is_ok());
+    /// assert!(receiver.keep(0, b"abc").is_ok());
     /// receiver.remove(2);
     /// assert_eq!((receiver.peek(0, 9), receiver.next()), (&b"c"[..], 3));
     /// ```
@@ -428,7 +429,7 @@ impl<S: Storage<u8>, const N: usize> ReceiverOver<S, N> {
     /// # use net_base::receiver::Receiver;
     /// # let mut storage = [0u8; 16];
     /// # let mut receiver = Receiver::<4>::new(&mut storage[..]);
-    /// assert!(receiver.segment(0, b"abc").is_ok());
+    /// assert!(receiver.keep(0, b"abc").is_ok());
     /// assert_eq!(receiver.next(), 3);
     /// ```
     #[must_use]
@@ -442,7 +443,7 @@ impl<S: Storage<u8>, const N: usize> ReceiverOver<S, N> {
     /// # use net_base::receiver::Receiver;
     /// # let mut storage = [0u8; 16];
     /// # let mut receiver = Receiver::<4>::new(&mut storage[..]);
-    /// assert!(receiver.segment(0, b"abc").is_ok());
+    /// assert!(receiver.keep(0, b"abc").is_ok());
     /// assert_eq!(receiver.queued(), 3);
     /// ```
     #[must_use]
@@ -457,7 +458,7 @@ impl<S: Storage<u8>, const N: usize> ReceiverOver<S, N> {
     /// # use net_base::receiver::Receiver;
     /// # let mut storage = [0u8; 16];
     /// # let mut receiver = Receiver::<4>::new(&mut storage[..]);
-    /// assert!(receiver.segment(0, b"abc").is_ok());
+    /// assert!(receiver.keep(0, b"abc").is_ok());
     /// assert_eq!(receiver.window(), 13);
     /// ```
     #[must_use]
@@ -472,7 +473,7 @@ impl<S: Storage<u8>, const N: usize> ReceiverOver<S, N> {
     /// # use net_base::receiver::Receiver;
     /// # let mut storage = [0u8; 16];
     /// # let mut receiver = Receiver::<4>::new_at(&mut storage[..], 100);
-    /// assert!(receiver.segment(100, b"abc").is_ok());
+    /// assert!(receiver.keep(100, b"abc").is_ok());
     /// assert_eq!(receiver.window_end(), Some(116));
     /// assert_eq!(receiver.read(&mut [0; 3]), 3);
     /// assert_eq!(receiver.window_end(), Some(119));
@@ -500,7 +501,7 @@ impl<S: Storage<u8>, const N: usize> ReceiverOver<S, N> {
     /// # use net_base::receiver::Receiver;
     /// # let mut storage = [0u8; 16];
     /// # let mut receiver = Receiver::<4>::new(&mut storage[..]);
-    /// assert!(receiver.segment(1, b"b").is_ok());
+    /// assert!(receiver.keep(1, b"b").is_ok());
     /// assert!(receiver.is_empty());
     /// ```
     #[must_use]
@@ -516,7 +517,7 @@ impl<S: Storage<u8>, const N: usize> ReceiverOver<S, N> {
     /// # use net_base::receiver::Receiver;
     /// # let mut storage = [0u8; 16];
     /// # let mut receiver = Receiver::<4>::new_at(&mut storage[..], 100);
-    /// assert!(receiver.segment(105, b"abc").is_ok());
+    /// assert!(receiver.keep(105, b"abc").is_ok());
     /// assert!(receiver.held().eq([(105, 108)]));
     /// ```
     #[must_use]
@@ -530,7 +531,7 @@ impl<S: Storage<u8>, const N: usize> ReceiverOver<S, N> {
     /// # use net_base::receiver::Receiver;
     /// # let mut storage = [0u8; 16];
     /// # let mut receiver = Receiver::<4>::new(&mut storage[..]);
-    /// assert!(receiver.segment(1, b"b").is_ok() && receiver.segment(3, b"d").is_ok());
+    /// assert!(receiver.keep(1, b"b").is_ok() && receiver.keep(3, b"d").is_ok());
     /// assert_eq!(receiver.held_count(), 2);
     /// ```
     #[must_use]
@@ -545,17 +546,17 @@ impl<S: Storage<u8>, const N: usize> ReceiverOver<S, N> {
     /// positions in `recent`, in their order, and then the others, in rising order; each comes once. Keep `recent` from
     /// call to call, zeros at first.
     ///
-    /// A sender that is told the first ranges again and again learns late of others. smoltcp reports the first range
-    /// alone.
+    /// So a sender soon learns of each range, although an acknowledgement has room for few. smoltcp's TCP socket
+    /// reports one range alone.
     ///
     /// ```
     /// # use net_base::receiver::Receiver;
     /// # let mut storage = [0u8; 16];
     /// # let mut receiver = Receiver::<4>::new_at(&mut storage[..], 100);
     /// let mut recent = [0; 3];
-    /// assert!(receiver.segment(108, b"i").is_ok());
+    /// assert!(receiver.keep(108, b"i").is_ok());
     /// assert!(receiver.newest_runs(108, &mut recent).eq([(108, 109)]));
-    /// assert!(receiver.segment(104, b"ef").is_ok());
+    /// assert!(receiver.keep(104, b"ef").is_ok());
     /// assert!(receiver.newest_runs(104, &mut recent).eq([(104, 106), (108, 109)]));
     /// ```
     pub fn newest_runs<const K: usize>(
@@ -568,10 +569,10 @@ impl<S: Storage<u8>, const N: usize> ReceiverOver<S, N> {
         NewestRunIter::over(runs, count)
     }
 
-    /// Returns the part of a segment of `len` bytes at `pos` that came before: what is below `next`, or else the first part
-    /// that waits. `None` if all of it is new. Ask before the segment is kept. TCP reports such a part once, as the
-    /// first block of the next acknowledgement (RFC 2883): it is below what is acknowledged, or within a waiting range.
-    /// (Not in smoltcp.)
+    /// Returns the part of a segment of `len` bytes at `pos` that came before: what is below `next`, or else the first
+    /// part that waits. `None` if all of it is new. Ask before the segment is kept. TCP reports such a part once, as
+    /// the first block of the next acknowledgement (RFC 2883): it is below what is acknowledged, or within a waiting
+    /// range. (Not in smoltcp.)
     ///
     /// ```
     /// # use net_base::receiver::Receiver;

@@ -77,13 +77,12 @@ pub struct NotSent;
 ///
 /// There are two storages of ranges (*runs*, in names), with room for `most_runs` each. `acknowledged` stores ranges
 /// that were acknowledged out of order, `sent` those in flight above the first lost byte. Where one has no room, some
-/// positions are sent twice, but none is forgotten. So if each marked range is acknowledged or lost at last, all that
-/// was written is acknowledged in the end.
+/// positions are sent twice, but none is forgotten: each is acknowledged, in flight, or offered again by `next`. With
+/// no room at all, a loss loses all that was sent from there on.
 ///
 /// Room for half as many ranges as packets sent from the first unacknowledged byte on is always enough, and mostly less
-/// is. With less, some bytes are sent twice. With none, a loss loses all that was sent from there on, and what is
-/// acknowledged out of order is sent again. `acknowledge` sets `sent_again` where it has no room: a caller whose
-/// storages can grow calls `grow_runs` then.
+/// is. If the storages can grow, count the calls of `lose` since `next` last returned new bytes, and call `grow_runs`
+/// before there are more of them than `most_runs`. If `acknowledge` sets `sent_again`, grow, and call it once more.
 ///
 /// No call allocates.
 #[derive(Clone)]
@@ -421,8 +420,8 @@ impl<R: Storage<Run>> SendRangesOver<R> {
     /// limit is lost or unsent.
     ///
     /// The FIN of a closed stream comes with the last bytes, or alone if these were sent before. It counts neither
-    /// towards `size` nor towards `limit`. A range is lost as a whole, or new as a whole. A loop that marks what `next`
-    /// returns ends.
+    /// towards `size` nor towards `limit`. No range has both lost and new bytes. A loop that marks what `next` returns
+    /// ends.
     ///
     /// ```
     /// # use net_base::finite::SendRanges;
@@ -436,6 +435,11 @@ impl<R: Storage<Run>> SendRangesOver<R> {
     /// }
     /// assert_eq!(sent, [0..8, 8..10]);
     /// ```
+    ///
+    /// # [Guarantees](crate#guarantees)
+    ///
+    /// - on `Some(range)`: `range.start < range.end` and `range.end <= self.numbers_end()`
+    /// - for each `p`: if `result == None` and `p < limit` and `p < self.numbers_end()`, then `!self.is_open(p)`
     #[must_use]
     pub fn next(&self, limit: u64, size: usize) -> Option<Range<u64>> {
         let end = self.written;
@@ -462,10 +466,9 @@ impl<R: Storage<Run>> SendRangesOver<R> {
     /// Marks a range as sent: it is in flight, and no longer lost. Returns false, and changes nothing, if the range is
     /// empty or ends above `numbers_end`.
     ///
-    /// Pass what `next` returned, or the first part of it: for that there is always room. What was sent before may be
-    /// marked again, as for a probe. A range above a gap that was never
-    /// marked declares the gap lost. If there is no room for another range, what was lost or unsent stays so, and is sent again. The call
-    /// doesn't report that: make room as [`SendRangesOver`] says, or grow when `acknowledge` sets `sent_again`.
+    /// Pass what `next` returned, or the first part of it: for that there is always room. If you mark a range above
+    /// positions that were never sent, these count as lost. If there is no room for another range, what was lost or
+    /// unsent stays so, and is sent again. The call doesn't report that: make room as [`SendRangesOver`] says.
     ///
     /// ```
     /// # use net_base::finite::SendRanges;
@@ -481,7 +484,7 @@ impl<R: Storage<Run>> SendRangesOver<R> {
     /// # [Guarantees](crate#guarantees)
     ///
     /// - if `!result`, then `self == old(self)`
-    /// - for each `p`: if `is_open(self, p)`, then `is_open(old(self), p)`
+    /// - for each `p`: if `self.is_open(p)`, then `old(self).is_open(p)`
     #[must_use]
     pub fn mark(&mut self, range: Range<u64>) -> bool {
         if range.start >= range.end {
@@ -503,8 +506,9 @@ impl<R: Storage<Run>> SendRangesOver<R> {
     /// Marks a range as acknowledged, when its packet is. Whether it was in flight or lost, none of it is sent again.
     ///
     /// A range that begins above the first unacknowledged position isn't remembered if that would make more than
-    /// `most_runs` ranges: it is lost then, and `sent_again` is set. The same is true of a range that ends
-    /// 2^32 positions or more above that first one, where growing doesn't help. An old acknowledgement is no error: `new` is 0.
+    /// `most_runs` ranges: it is lost then, and `sent_again` is set. The same is true of a range that ends 2^32
+    /// positions or more above that first one, where growing doesn't help. An old acknowledgement is no error: `new` is
+    /// 0.
     ///
     /// ```
     /// # use net_base::finite::{NotSent, SendRanges};
@@ -549,9 +553,8 @@ impl<R: Storage<Run>> SendRangesOver<R> {
     /// of it is sent again. Ranges may be lost in any order. Returns false, and changes nothing, if the range ends
     /// above what was sent.
     ///
-    /// A loss in the middle of a range in flight leaves two ranges. If there is no room for one more, the shorter of
-    /// the two is lost too. The call doesn't report that: make room as [`SendRangesOver`] says, or grow when
-    /// `acknowledge` sets `sent_again`.
+    /// A loss in the middle of a range in flight leaves two ranges. If there is no room for one more, some of what is
+    /// in flight beside it is lost too. The call doesn't report that: make room as [`SendRangesOver`] says.
     ///
     /// ```
     /// # use net_base::finite::SendRanges;

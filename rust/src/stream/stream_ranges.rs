@@ -158,7 +158,8 @@ impl<R: Storage<Run>> StreamRangesOver<R> {
     /// Keeps the first new part of a segment, and returns it: `None` if none of the segment is new.
     ///
     /// A position is new if it is in the free window, below the end, and in no part yet. `fin` says that the stream
-    /// ends at the range's end. An end above `window_end` is left out, and must be sent again.
+    /// ends at the range's end, which may have no new position. A FIN above `window_end` isn't kept, and has to come
+    /// again.
     ///
     /// Call it until it returns `None`, since waiting ranges can divide the segment. Only the first of these calls can
     /// return an error. An empty or reversed range has no position.
@@ -178,7 +179,11 @@ impl<R: Storage<Run>> StreamRangesOver<R> {
     /// # Errors
     ///
     /// `OtherEnd` if the stream can't end there, as `can_end` tells. Else `TooManyHoles` if the part would make too
-    /// many waiting ranges, which one that begins at `next` never does. Nothing changes then.
+    /// many waiting ranges; a part that begins at `next` never does. After an error nothing has changed.
+    ///
+    /// # [Guarantees](crate#guarantees)
+    ///
+    /// - on `Err`: `self == old(self)`
     #[inline]
     pub fn keep(
         &mut self,

@@ -1,7 +1,6 @@
-//! A stream's receiver alone, for other rules of what is acknowledged, as QUIC has. The stream of
-//! bytes ends or not. The end is the position after the last byte. It takes a position, as TCP's
-//! FIN does, but no room. It is known once a segment has said so; a stream whose segments never say
-//! so doesn't end.
+//! A stream out of segments, for QUIC or a protocol of your own. The stream is *finite* if a segment
+//! says where it ends; otherwise it has no end. The end is the position after the last byte. It
+//! takes a position, as TCP's FIN does, but no room.
 //!
 //! A head of zeros is new, of a stream that begins at position 0.
 //! `net_base_finite_receiver_segment` takes what arrives, and `net_base_finite_receiver_read`
@@ -16,8 +15,8 @@
 //! are kept in it.
 //!
 //! An end in order is never refused: that of a last segment which begins at or below the first
-//! missing position and ends at or above it. What waited beyond it, and an end that was known, go
-//! then. An end beyond the free window isn't taken.
+//! missing position and ends at or above it. Then what waits beyond it is dropped, and an end that
+//! was known is replaced. An end beyond the free window isn't taken.
 ghost use Rattle.net_assembler.specs.RunLists.{IsCanonical};
 ghost use Rattle.net_ffi.specs.ReceiverParts.{HasRuns, IsReadable};
 ghost use Rattle.net_ffi.specs.Refusals.{no_number};
@@ -62,7 +61,7 @@ pub extern "C" fn net_base_finite_receiver_init(
     true
 }
 
-/// Returns whether this head, a storage of `capacity` bytes and runs are sound: they are those of a
+/// Returns whether head and runs are sound over a storage of `capacity` bytes: they are those of a
 /// receiver, and the position after its last byte, also of those that wait, is at most the end, if
 /// that is known, and below 2^64 - 1. It looks at each used run, and at no byte.
 #[unsafe(no_mangle)]

@@ -46,9 +46,9 @@ pub extern "C" fn net_base_fragments_is_sound(
     fragments.is_sound(capacity, runs)
 }
 
-/// Sets the packet's size to `size` bytes, of a buffer of `capacity` bytes. Returns
-/// `NET_BASE_TOO_LONG` if that has fewer, or else `NET_BASE_OTHER_SIZE` if another size is known,
-/// or a byte at `size` or above has arrived; then nothing changes.
+/// Sets the packet's size to `size` bytes. `capacity` is how many bytes the storage has. Returns
+/// `NET_BASE_TOO_LONG` if the storage has fewer, or else `NET_BASE_OTHER_SIZE` if another size is
+/// known, or a byte at `size` or above has arrived; then nothing changes.
 ///
 /// It is refused if `present.used` is above `runs.len()`: `NET_BASE_REFUSED`, and nothing changes.
 ///

@@ -123,8 +123,7 @@ pub fn drops<H>()
         → HasNoRoom q s → HasNoRoomBefore (k + 1) p s }
 {}
 
-/// States that a clone of a slot is the same, if that of a header is, and is never refused, if that of
-/// a header isn't.
+/// States that a clone of a slot is the same, if that of a header is, and is never refused, if that of a header isn't.
 pub fn packet_metadata_clone<H: Clone>(slot: &PacketMetadata<H>, clone: &PacketMetadata<H>)
     ensures same { ((x y : H) → H.is_clone x y → y ≡ x)
         → ⟦<PacketMetadata<H> as Clone>⟧.is_clone slot.now clone.now → clone.now ≡ slot.now }

@@ -13,9 +13,8 @@ use std::marker::Model;
 
 mod tests;
 
-/// A device of two lists: received frames, and frames that were sent. It stores the moment at which
-/// it was last asked for a frame and the identifier that the last frame was sent with, and counts how often it was
-/// asked for room.
+/// A device of two lists: received frames, and frames that were sent. It stores the moment at which it was last asked
+/// for a frame and the identifier that the last frame was sent with, and counts how often it was asked for room.
 #[derive(Drop)]
 pub struct TwoLists<A: Allocator + Copy = Global> {
     pub to_come: VecDeque<Vec<u8, A>, A>,

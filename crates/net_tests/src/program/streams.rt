@@ -1,6 +1,6 @@
-//! Each read, write and flush fails in turn, standard error too, by readers and writers that move few bytes a call; words
-//! that name no mode; and long inputs, which catch a body that gives up from some size on. What is written then is what
-//! docs/BENCH.md says.
+//! Each read, write and flush fails in turn, standard error too, by readers and writers that move few bytes a call;
+//! words that name no mode; and long inputs, which catch a body that gives up from some size on. What is written then
+//! is what docs/BENCH.md says.
 use crate::assertions::{assert_bytes, assert_count, assert_holds};
 use crate::program::memory::words_of;
 use crate::program::program_rows::{ASSEMBLERS, RINGS, SCHEDULES, STREAMS};

@@ -308,8 +308,8 @@ impl<S: Storage<u8>, const N: usize> SendingEndOver<S, N> {
         self.sender.close();
     }
 
-    /// Lends the bytes of a segment, in two parts, and returns whether the stream ends after them. If the range begins
-    /// at a position that is acknowledged, it lends none.
+    /// Lends the bytes of a segment in two parts. The result's `fin` is whether the stream ends after them. If the
+    /// range begins at a position that is acknowledged, it lends none.
     ///
     /// ```
     /// # use net_tcp::SendingEnd;

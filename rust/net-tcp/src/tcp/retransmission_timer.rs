@@ -379,11 +379,10 @@ impl RetransmissionTimer {
         }
     }
 
-    /// Takes an acknowledgement of all positions below `next`: the sample of the timed segment, if that
-    /// is below; then, if it acknowledges something new, it stops the timer if all that was sent is below
-    /// `next`, and otherwise starts it again. A repeated
-    /// acknowledgement does neither, also if nothing is on the way and `start` began the timer. One of what was never
-    /// sent changes nothing.
+    /// Takes an acknowledgement of all positions below `next`: the sample of the timed segment, if that is below; then,
+    /// if it acknowledges something new, it stops the timer if all that was sent is below `next`, and otherwise starts
+    /// it again. A repeated acknowledgement does neither, also if nothing is on the way and `start` began the timer.
+    /// One of what was never sent changes nothing.
     ///
     /// `numbers` are the sender's before it takes the acknowledgement.
     ///

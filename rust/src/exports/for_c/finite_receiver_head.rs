@@ -3,9 +3,9 @@ use crate::storage::Run;
 use crate::stream::finite_receiver_head::*;
 
 impl FiniteReceiverHead {
-    /// Returns whether this head, a storage of `capacity` bytes and runs are sound: they are those of
-    /// a receiver, and the position after its last byte, held ones too, is at most the end, if that
-    /// is known, and below 2^64 - 1. It looks at each held run, and at no byte.
+    /// Returns whether this head, a storage of `capacity` bytes and runs are sound: they are those of a receiver, and
+    /// the position after its last byte, held ones too, is at most the end, if that is known, and below 2^64 - 1. It
+    /// looks at each held run, and at no byte.
     pub(crate) fn is_sound(&self, capacity: usize, runs: &[Run]) -> bool {
         let end = bytes_end(self.after_end);
         self.receiver.is_sound(capacity, runs) && self.receiver.has_all_below(runs, end)

@@ -400,9 +400,8 @@ impl AssemblerHead {
         }
     }
 
-    /// Returns the hole with number `k`, counted from 0 in rising order, as (start, end), the end not
-    /// included; `None` exactly if there are no more than `k`. Holes are the missing ranges below
-    /// the end of the last run.
+    /// Returns the hole with number `k`, counted from 0 in rising order, as (start, end), the end not included; `None`
+    /// exactly if there are no more than `k`. Holes are the missing ranges below the end of the last run.
     ///
     /// # Requires
     ///
@@ -695,8 +694,8 @@ fn runs_met(runs: &[Run], used: usize, from: usize, end: usize) -> usize {
     next
 }
 
-/// Returns the run with number `k`, counted `by` higher, in numbers that wrap: so it is counted lower
-/// if `by` is the negative of a number.
+/// Returns the run with number `k`, counted `by` higher, in numbers that wrap: so it is counted lower if `by` is the
+/// negative of a number.
 #[inline(always)]
 fn wrapped(runs: &[Run], k: usize, by: usize) -> Run {
     let start = by.wrapping_add(start_of(runs, k));
@@ -744,9 +743,8 @@ fn cut(runs: &mut [Run], used: usize, from: usize, to: usize) -> Option<usize> {
     Some(take_out(runs, used, met, next - 1, 0))
 }
 
-/// Takes out the runs from `at` up to `from`, and moves the later ones down, each counted `by`
-/// higher. Returns how many runs there are then. It isn't marked inline: where several places call it,
-/// it is a call.
+/// Takes out the runs from `at` up to `from`, and moves the later ones down, each counted `by` higher. Returns how many
+/// runs there are then. It isn't marked inline: where several places call it, it is a call.
 fn take_out(runs: &mut [Run], used: usize, at: usize, from: usize, by: usize) -> usize {
     let mut to = at;
     for k in from..used.min(runs.len()) {

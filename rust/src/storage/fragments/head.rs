@@ -11,9 +11,8 @@ use crate::storage::{AssemblerHead, Run};
 /// kept as the other has elements. A head of zeros, but for `expires_at`, is that of an empty
 /// buffer. smoltcp has no such type: its buffer is one value.
 ///
-/// A head is exact (`IsExact`) if no number says nothing: both of `present` are 0 where there is no
-/// run, and `total` is 0 while the size isn't known. `new` and `reset` make it so, and each call leaves
-/// it so.
+/// A head is exact (`IsExact`) if no number says nothing: both of `present` are 0 where there is no run, and `total` is
+/// 0 while the size isn't known. `new` and `reset` make it so, and each call leaves it so.
 ///
 /// Head, bytes and runs are those of a buffer if the runs are those of an assembler and end within the bytes, and
 /// within a known size, which is at most that of the bytes: `HasSoundParts` in contracts.
