@@ -55,7 +55,7 @@ fn sender() {
     let (mut storage, mut acked, mut sent) = ([0u8; 16], [Run::EMPTY; 4], [Run::EMPTY; 4]);
     let mut buffer = SendBuffer::new(&mut storage[..], &mut acked[..], &mut sent[..]);
     println!("took {}", buffer.write(b"hello, world"));
-    // At most 8 bytes fit into a packet, and the peer has room for all.
+    // The peer sets no limit, and 8 bytes fit into a packet.
     while let Some(range) = buffer.next(u64::MAX, 8) {
         println!("send {range:?}: {}", buffer.bytes(range.clone()).front.escape_ascii());
         assert!(buffer.mark(range));
@@ -148,7 +148,7 @@ fn fragments() {
         let whole = packet.assemble().map(|it| it.escape_ascii().to_string());
         println!("offset {offset}: {whole:?}");
     }
-    // Fragments that overlap are an attack. IPv6 drops the packet (RFC 5722): ask before you add.
+    // Overlapping fragments can be an attack: IPv6 drops the packet (RFC 5722). Ask before you add.
     println!("overlaps {}, differs {}", packet.overlaps(8, 4), packet.differs(8, b"EVIL"));
     println!("in time: {}", !packet.is_expired(now + Duration::from_secs(5)));
 }

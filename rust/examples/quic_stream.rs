@@ -23,8 +23,8 @@ const MOST_RUNS: usize = 100;
 const WINDOW: usize = 16;
 /// How many packets may overtake one before it counts as lost: RFC 9002 has 3, and this path has packets come as they like.
 const OVERTAKING: u64 = 8;
-/// How many ticks without an acknowledgement tell that all that is in flight is lost.
-const TIMEOUT: u64 = 100;
+/// The probe timeout: after how many ticks without an acknowledgement a packet is sent whatever the window says.
+const TIMEOUT: u64 = 50;
 
 /// What a packet has: it is STREAM, or ACK and MAX_STREAM_DATA.
 #[derive(Clone)]
@@ -50,88 +50,132 @@ impl Path {
     }
 }
 
-/// The side that sends: the bytes, what is known of them, and the range of each packet that is in flight.
+/// A packet that isn't acknowledged yet: the range of the stream that it carried.
+struct SentPacket {
+    range: Range<u64>,
+    is_probed: bool,
+}
+
+/// The side that sends: the bytes, what is known of them, and the packets by number.
 struct Sender<'a> {
     data: &'a [u8],
     stream: SendRanges<'static>,
-    ranges: BTreeMap<u64, Range<u64>>,
+    packets: BTreeMap<u64, SentPacket>,
     next_number: u64,
     max_stream_data: u64,
+    losses: usize,
     heard: u64,
 }
 
 impl Sender<'_> {
     /// Sends what the peer's flow control and the window of packets allow.
     fn send(&mut self, path: &mut Path, now: u64) {
-        while self.ranges.len() < WINDOW {
-            let Some(range) = self.stream.next(self.max_stream_data, SIZE) else { break };
-            let fin = self.stream.has_fin(&range);
-            let end = range.end - u64::from(fin);
-            let data = self.data[range.start as usize..end as usize].to_vec();
-            let number = self.next_number;
-            path.send(now, &Packet::Stream { number, offset: range.start, data, fin });
-            assert!(self.stream.mark(range.clone()), "it was written");
-            self.ranges.insert(number, range);
-            self.next_number += 1;
-        }
+        while self.packets.len() < WINDOW && self.send_packet(path, now) {}
     }
 
-    /// Takes an ACK frame. What was sent that long before a packet of it is lost (RFC 9002, 6.1.1).
-    fn acknowledged(&mut self, packets: &[u64], now: u64) {
-        for &number in packets {
-            let Some(range) = self.ranges.remove(&number) else { continue };
-            let said = self.stream.acknowledge(range).expect("it was sent");
-            if said.sent_again {
-                // Too many ranges wait. With room for more, the next one isn't sent again.
-                let runs = vec![Run::EMPTY; 2 * self.stream.most_runs() + 1];
-                self.stream.grow_runs(runs.clone().into(), runs.into());
-            }
+    /// Sends a packet with a STREAM frame, unless there is nothing to send.
+    fn send_packet(&mut self, path: &mut Path, now: u64) -> bool {
+        let Some(range) = self.stream.next(self.max_stream_data, SIZE) else {
+            return false; // all is in flight or acknowledged, or the limit is reached
+        };
+        if range.start >= self.stream.numbers().sent {
+            self.losses = 0; // all that was lost is sent again
+        }
+        let fin = self.stream.has_fin(&range);
+        let end = range.end - u64::from(fin); // the FIN's position has no byte
+        let data = self.data[range.start as usize..end as usize].to_vec();
+        let number = self.next_number;
+        path.send(now, &Packet::Stream { number, offset: range.start, data, fin });
+        assert!(self.stream.mark(range.clone()), "it was written");
+        self.packets.insert(number, SentPacket { range, is_probed: false });
+        self.next_number += 1;
+        true
+    }
+
+    /// Takes an ACK frame. What was sent long before a packet of it is lost (RFC 9002, 6.1.1).
+    fn acknowledged(&mut self, numbers: &[u64], now: u64) {
+        for number in numbers {
+            let Some(packet) = self.packets.remove(number) else { continue };
             self.heard = now;
-            let in_flight = self.ranges.split_off(&(number + 1).saturating_sub(OVERTAKING));
-            for lost in mem::replace(&mut self.ranges, in_flight).into_values() {
-                assert!(self.stream.lose(lost), "it was sent");
+            self.on_acknowledged(packet);
+            let in_flight = self.packets.split_off(&(number + 1).saturating_sub(OVERTAKING));
+            for lost in mem::replace(&mut self.packets, in_flight).into_values() {
+                self.on_lost(lost);
             }
         }
     }
 
-    /// Loses all that is in flight, since no answer came for a while.
-    fn timed_out(&mut self, now: u64) {
-        self.stream.lose_all();
-        self.ranges.clear();
+    fn on_acknowledged(&mut self, packet: SentPacket) {
+        let reply = self.stream.acknowledge(packet.range.clone()).expect("it was sent");
+        if reply.sent_again {
+            self.make_room(); // the range couldn't be remembered: now it can
+            self.stream.acknowledge(packet.range).expect("it was sent");
+        }
+    }
+
+    fn on_lost(&mut self, packet: SentPacket) {
+        if packet.is_probed {
+            return; // a newer packet has these bytes
+        }
+        if self.losses >= self.stream.most_runs() {
+            self.make_room(); // otherwise more than this packet may be lost
+        }
+        self.losses += 1;
+        assert!(self.stream.lose(packet.range), "it was sent");
+    }
+
+    fn make_room(&mut self) {
+        let runs = vec![Run::EMPTY; (2 * self.stream.most_runs()).max(8)];
+        self.stream.grow_runs(runs.clone().into(), runs.into());
+    }
+
+    /// Sends a probe: new data if there is some, or else the oldest bytes again.
+    fn probe(&mut self, path: &mut Path, now: u64) {
         self.heard = now;
+        if self.send_packet(path, now) {
+            return;
+        }
+        if let Some(oldest) = self.packets.values_mut().find(|packet| !packet.is_probed) {
+            oldest.is_probed = true;
+            assert!(self.stream.lose(oldest.range.clone()), "it was sent");
+            self.send_packet(path, now); // if that sends nothing either, send a PING
+        }
     }
 }
 
-/// The side that receives: which bytes came, these bytes by position, and the MAX_STREAM_DATA that it announced last.
+/// The side that receives: which bytes came, these bytes by position, the MAX_STREAM_DATA that it announced last, and the
+/// highest end of a frame.
 struct Receiver {
     stream: StreamRanges<'static>,
     chunks: BTreeMap<u64, Vec<u8>>,
     announced: u64,
+    highest: u64,
 }
 
 impl Receiver {
     /// Takes a STREAM frame, or returns the error with which the connection closes.
     fn receive(&mut self, offset: u64, data: &[u8], fin: bool) -> Result<(), &'static str> {
-        let range = offset..offset + data.len() as u64;
-        if range.end > self.announced {
+        let end = offset + data.len() as u64;
+        if end > self.announced {
             return Err("FLOW_CONTROL_ERROR");
         }
-        if self.stream.end().is_some_and(|known| range.end > known) {
+        if self.stream.end().is_some_and(|known| end > known) || fin && end < self.highest {
             return Err("FINAL_SIZE_ERROR");
         }
+        self.highest = self.highest.max(end);
         loop {
-            match self.stream.keep(range.clone(), fin) {
+            match self.stream.keep(offset..end, fin) {
                 Ok(Some(part)) => {
                     let new = (part.start - offset) as usize..(part.end - offset) as usize;
                     self.chunks.insert(part.start, data[new].to_vec());
                 }
-                Ok(None) => return Ok(()),
-                Err(FiniteError::OtherEnd) => return Err("FINAL_SIZE_ERROR"),
+                Ok(None) => return Ok(()), // all that was new is stored
                 Err(FiniteError::TooManyHoles) if self.stream.most_runs() < MOST_RUNS => {
-                    let runs = vec![Run::EMPTY; 2 * self.stream.most_runs() + 1];
-                    self.stream.grow_runs(runs.into());
+                    let runs = vec![Run::EMPTY; (2 * self.stream.most_runs()).max(8)];
+                    self.stream.grow_runs(runs.into()); // and try again
                 }
-                Err(_) => return Err("INTERNAL_ERROR"),
+                Err(FiniteError::OtherEnd) => return Err("FINAL_SIZE_ERROR"),
+                Err(_) => return Err("INTERNAL_ERROR"), // more ranges than we let wait
             }
         }
     }
@@ -160,13 +204,15 @@ fn main() {
         stream: StreamRanges::new(vec![], BEGIN),
         chunks: BTreeMap::new(),
         announced: BEGIN as u64,
+        highest: 0,
     };
     let mut sender = Sender {
         data: &file,
         stream: SendRanges::new(vec![], vec![]),
-        ranges: BTreeMap::new(),
+        packets: BTreeMap::new(),
         next_number: 0,
         max_stream_data: BEGIN as u64,
+        losses: 0,
         heard: 0,
     };
     assert_eq!(sender.stream.write(file.len() as u64), file.len() as u64);
@@ -194,7 +240,7 @@ fn main() {
             None => {}
         }
         if now >= sender.heard + TIMEOUT {
-            sender.timed_out(now);
+            sender.probe(&mut path, now);
         }
     }
     assert!(receiver.stream.has_read_all() && read == file);
