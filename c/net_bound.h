@@ -512,6 +512,15 @@ NET_BASE_MUST_USE static inline size_t net_bound_finite_receiver_queued(
     const struct net_bound_finite_receiver *receiver) {
     return receiver ? receiver->head.receiver.place.length : 0;
 }
+/** Returns where at most `size` queued bytes are, from the one at `offset` on, to be read in place:
+ * none if `offset` is past the queue. Take them off by `net_bound_finite_receiver_remove`. */
+NET_BASE_MUST_USE static inline struct net_base_span net_bound_finite_receiver_allocated(
+    const struct net_bound_finite_receiver *receiver, size_t offset, size_t size) {
+    struct net_base_span found = net_base_ring_allocated(
+        receiver ? &receiver->head.receiver.place : NULL, NET_BOUND_CAPACITY(receiver), offset, size);
+    found.from = net_bound_or_0(found.from);
+    return found;
+}
 /** Returns how many bytes are queued: those that `net_bound_receiving_end_read` can copy now. */
 NET_BASE_MUST_USE static inline size_t net_bound_receiving_end_queued(
     const struct net_bound_receiving_end *end) {

@@ -3,8 +3,8 @@
  *
  * With an RTOS nothing else is needed between one interrupt and one task. To let the task sleep, notify it after the put:
  * in FreeRTOS by vTaskNotifyGiveFromISR, for which the task waits by ulTaskNotifyTake. We haven't tried this. If two
- * tasks write, they need a mutex between them. With DMA into a buffer of its own, let the interrupt of the idle line put
- * the new bytes into the ring.
+ * tasks write, they need a mutex between them. With DMA into a buffer of its own, let the interrupts of half, full and
+ * idle put what is new into the ring.
  */
 #ifndef BYTE_RING_H
 #define BYTE_RING_H
@@ -24,6 +24,7 @@ typedef _Atomic size_t byte_ring_count;
 #define BYTE_RING_ASSERT _Static_assert
 #endif
 
+/* One for the whole program: define another by the compiler's flags, as the struct depends on it. */
 #ifndef BYTE_RING_SIZE
 #define BYTE_RING_SIZE 256
 #endif
