@@ -1,7 +1,7 @@
-//! The data structures inside a network stack: byte rings, packet queues, reassembly of segments that arrive out of
-//! order, the ranges that a sender has sent, times and checksums. Each function is proved to return and change what its page says, for every input that
-//! the page allows, except for [some parts](#what-is-proved). Nothing here needs a heap. The crate needs Rust 1.85, and
-//! a target of 32 or 64 bits.
+//! The part of a network stack that stores bytes: ring buffers, packet queues, reassembly of segments and of IP
+//! fragments, buffers of what was sent, times and checksums. Each function is [proved](#what-is-proved) to meet its
+//! contract for every input that the contract allows, apart from some parts that are only tested. Nothing here needs a
+//! heap. The crate needs Rust 1.85, and a target of 32 or 64 bits.
 //!
 //! A segment is a position and some bytes. A [`FiniteReceiver`](finite::FiniteReceiver) puts the segments of a stream in
 //! order:
@@ -60,9 +60,9 @@
 //! The page of each type has an example. The repository also has pages with a program for each task: `docs/GUIDE.md`,
 //! `docs/QUIC.md` and `docs/TCP.md`.
 //!
-//! [`storage`], [`time`], [`rand`] and [`phy`] have the names, signatures and behaviour of
-//! [smoltcp](https://github.com/smoltcp-rs/smoltcp) 0.14.0, except where an item says otherwise. Of [`phy`] there are
-//! capabilities, checksums, metadata and a loopback device.
+//! [`storage`] and [`time`] have the names, signatures and behaviour of
+//! [smoltcp](https://github.com/smoltcp-rs/smoltcp) 0.14.0, except where an item says otherwise. So have [`rand`], which
+//! is private there, and of [`phy`] the capabilities, checksums, metadata and loopback device.
 //!
 //! # Storage
 //!
@@ -82,27 +82,26 @@
 //!
 //! # What is proved
 //!
-//! The source is written in Rattle, which is Rust with a contract for each function. A prover has checked for all
-//! arguments that each body meets its contract. Then a script took the contracts out. A "Source" link opens what is
-//! left, and its first line names the file that has the contracts. A *law* that a page names is a theorem about many
-//! calls, which `docs/laws.md` of the repository explains.
+//! The source is written in Rattle, which is Rust with a contract for each function: what it returns, what it changes,
+//! and when it refuses. A prover has checked that each body meets its contract for all arguments. Then a script took the
+//! contracts out. A "Source" link opens what is left, and its first line names the file that has the contracts. A *law*
+//! that a page names is a theorem about many calls, which `docs/laws.md` of the repository explains.
 //!
-//! These parts are tested, and not proved: `Debug`, conversions from slices, arrays, vectors, boxes and numbers, std's
-//! traits such as `Deref`, `Hash`, `Sum`, `Read` and `Write`, std's clocks, the traits and devices of [`phy`], and of a
-//! [`SplitRing`](storage::SplitRing) all but its indices.
+//! These parts are only tested: `Debug`, conversions from slices, arrays, vectors, boxes and numbers, std's traits such as
+//! `Deref`, `Hash`, `Sum`, `Read` and `Write`, std's clocks, the traits and devices of [`phy`], and all of a
+//! [`SplitRing`](storage::SplitRing) except the arithmetic of its indices.
 //!
 //! # Panics
 //!
-//! A call panics only if you break what the section "Panics" of its page says, and then in every build. Most calls that
-//! take data from a packet, such as [`keep`](receiver::ReceiverOver::keep), require nothing, so no packet makes them
-//! panic.
+//! A call panics only if you break a precondition, which the section "Panics" of its page names, and then in every
+//! build. [`keep`](receiver::ReceiverOver::keep) and most other calls that take data from a packet have none. Calls that
+//! have one, such as [`segment`](receiver::ReceiverOver::segment), are listed in `docs/GUIDE.md` of the repository.
 //!
 //! # Guarantees
 //!
 //! A section of this name, on a function's page, quotes statements of its contract in Rust's words. `old(x)` is x
-//! before the call, and `x` what it is afterwards. Numbers in them have no bound, so sums don't wrap, and a slice
-//! beyond its list is shorter.
-//! `docs/CONTRACTS.md` of the repository explains the names in them that no call has.
+//! before the call, and `x` what it is afterwards. In these statements numbers never overflow, and a slice that reaches
+//! past the end is cut short. `docs/CONTRACTS.md` of the repository explains the names in them that no call has.
 //!
 //! # Features
 //!
