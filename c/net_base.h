@@ -74,10 +74,10 @@
  * 6. A head, its runs and its slots are written by calls of its own kind alone. For a finite
  *    receiver these are `net_base_finite_receiver_..`, and its `place` isn't written by
  *    `net_base_ring_..`. You may set a head to zeros.
- * 7. A head is made by its `.._init`, or of zeros, before another call is passed it. With duties 5
- *    and 6 it then is *sound*: head and runs are such as calls of its kind leave. A comment that
- *    says `Requires` needs that, and a call whose name ends in `_is_sound` tests it, for a head
- *    that anything else may have written.
+ * 7. Call a head's `.._init` before its other calls, or set it to zeros. With duties 5 and 6 it
+ *    then is *sound*: head and runs are such as calls of its kind leave. A comment that says
+ *    `Requires` needs that, and a call whose name ends in `_is_sound` tests it, for a head that
+ *    anything else may have written.
  *
  * Refusals
  *
@@ -90,7 +90,7 @@
  * - a status: its `NET_BASE_.._REFUSED`, which is never returned for anything else
  * - `size_t`: `NET_BASE_NONE`
  * - `uint64_t`: `UINT64_MAX`
- * - `uint16_t`: 0, for a null pointer or such a `bool` alone
+ * - `uint16_t`: 0
  * - a struct: the same in its first field, and in the others what the comment of the call says
  * - `void`: nothing
  *
@@ -710,8 +710,8 @@ struct net_base_receiver {
  * was known is replaced. An end beyond the free window isn't taken. */
 struct net_base_finite_receiver {
     struct net_base_receiver receiver; /**< The receiver of the bytes. */
-    /** The number after the end's, which is acknowledged once all has arrived, or 0 while the end
-     * isn't known. */
+    /** The position after the end's, or 0 while the end isn't known. It is acknowledged once all
+     * has arrived. */
     uint64_t after_end;
 };
 
@@ -961,8 +961,9 @@ NET_BASE_MUST_USE bool net_base_receiving_end_is_due(
 
 /** Returns whether an acknowledgement is to be sent within half a second (RFC 9293, 3.8.6.3): a
  * segment waits for one, or an update of the window is worth a segment. `capacity` is how many
- * bytes the storage has. Once all has arrived no update is. Ask it before you wait. A segment with
- * bytes that you send in the meantime acknowledges too: ask again before you send one without.
+ * bytes the storage has. Once all has arrived, no update is wanted. Ask it before you wait. A
+ * segment with bytes that you send in the meantime acknowledges too: ask again before you send one
+ * without.
  *
  * It is refused if `end` isn't one over `capacity` bytes: false. Requires: the head is sound with
  * the storage, as `net_base_receiving_end_is_sound` tests. */
@@ -971,8 +972,8 @@ NET_BASE_MUST_USE bool net_base_receiving_end_is_wanted(
     NET_BASE_LINK(receiving_end_is_wanted);
 
 /** Writes what a segment with bytes of its own tells, and returns true: the first missing position
- * to `next`, and to `window` the window, in units of the scale. The end counts both as told, so
- * send the segment. An acknowledgement that is due stays so: it lists ranges.
+ * to `next`, and to `window` the window, in units of the scale. Once you have called it, send the
+ * segment. An acknowledgement that is due stays due, since this segment lists no ranges.
  *
  * It is refused if `end` isn't one over `capacity` bytes: false, and nothing changes. Requires:
  * the head is sound, as `net_base_receiving_end_is_sound` tests. */
@@ -981,8 +982,8 @@ NET_BASE_MUST_USE bool net_base_receiving_end_announce(
     uint64_t *NET_BASE_RESTRICT next, uint16_t *NET_BASE_RESTRICT window)
     NET_BASE_LINK(receiving_end_announce);
 
-/** Writes what a segment without bytes tells, and returns true. The end counts it as told, so send
- * the segment. What came twice is told once. `capacity` is how many bytes the storage has.
+/** Writes what a segment without bytes tells, and returns true. Once you have called it, send the
+ * segment: what came twice is told once. `capacity` is how many bytes the storage has.
  *
  * It is refused if `end` isn't one over `capacity` bytes: false, and nothing changes. Requires:
  * the head is sound with the storage, as `net_base_receiving_end_is_sound` tests. */
@@ -1191,7 +1192,7 @@ struct net_base_taken_acknowledgement {
     bool begins; /**< Whether it begins a recovery: then halve the congestion window. */
 };
 
-/** What the timer's end means. */
+/** Whether the timer has ended, and what that means. */
 struct net_base_ended_timer {
     enum net_base_expired_status status; /**< What it means. */
     /** Whether `NET_BASE_EXPIRED_OVERDUE` begins a recovery: then halve the congestion window.
@@ -1219,8 +1220,9 @@ struct net_base_segment_parts {
 
 /** Makes `end` the sending side of a connection, whose stream begins at position `first`, and to
  * which nothing was written. `first_timeout` is the timeout, in microseconds, before any round
- * trip was measured: 1,000,000 for TCP (RFC 6298, 2.1), as which 0 counts. In `bounds` zeros count
- * as what the RFC says, but set `ack_delay`. The storage may have any values.
+ * trip was measured. 0 means 1,000,000, as RFC 6298 (2.1) says. In `bounds` zeros mean what the
+ * RFC says, but set `ack_delay`: 200,000 for TCP, or 0 if the peer answers at once. The storage
+ * may have any values.
  *
  * It is refused if `first` is `UINT64_MAX`, since an end there would have no number after it:
  * false, and nothing changes. */
@@ -1238,9 +1240,8 @@ NET_BASE_MUST_USE bool net_base_sending_end_is_sound(
  * it reports blocks (SACK). Without SACK no probe is sent, as the peer couldn't answer it.
  * `announcement.seq` is the SYN's position, and `announcement.ack` your first position, even if
  * the SYN has no ACK. `segment_size` counts bytes of the stream alone: pass the peer's MSS less
- * the options that each of your segments has (RFC 6691). What was written stays. It is done once,
- * before anything is sent; a second time begins with another peer, and the timer runs if something
- * is in flight.
+ * the options that each of your segments has (RFC 6691). What was written stays. Call it once,
+ * before anything is sent. A second call begins with another peer.
  *
  * It is refused if `end` isn't sound over `capacity` bytes: false, and nothing changes. */
 NET_BASE_MUST_USE bool net_base_sending_end_open(
@@ -1276,7 +1277,7 @@ NET_BASE_MUST_USE size_t net_base_sending_end_write(
 void net_base_sending_end_close(struct net_base_sending_end *end) NET_BASE_LINK(sending_end_close);
 
 /** Takes what a segment acknowledges and announces, and the blocks that it reports, as positions.
- * It `is_empty` if it has no byte and no FIN. Blocks of what wasn't sent say nothing.
+ * Pass `is_empty` if the segment has no byte and no FIN. Blocks of what wasn't sent are ignored.
  *
  * It is refused if `end` isn't sound over `capacity` bytes, or if there are more than 4 blocks:
  * `count` is 0, `reports` and `begins` are false, the status is `NET_BASE_ACKNOWLEDGED_REFUSED`,
@@ -1342,7 +1343,7 @@ NET_BASE_MUST_USE bool net_base_sending_end_expires_at(
 NET_BASE_MUST_USE uint64_t net_base_sending_end_empty_segment_position(
     const struct net_base_sending_end *end) NET_BASE_LINK(sending_end_empty_segment_position);
 
-/** Returns whether a recovery lasts.
+/** Returns whether a recovery from a loss is in progress.
  *
  * It is refused if the first position that isn't acknowledged doesn't fit 64 bits: false. */
 NET_BASE_MUST_USE bool net_base_sending_end_is_recovering(

@@ -9,13 +9,13 @@
  * Once `net_bound_finite_receiver_init(&receiver, storage, 64, runs, 4, 0)` is true, the other
  * calls are passed `&receiver` in place of the buffers. docs/C.md has whole programs.
  *
- * A call `net_bound_..` makes the call `net_base_..`, whose comment in net_base.h has the whole:
- * also when it is refused, that is, changes nothing and returns a value that says so. Words are
- * explained there, such as *run*, a waiting range, and *sound*, as calls leave a struct. Times are
- * in microseconds. Each struct has the head, which is its numbers, and a pointer to each buffer
- * with its length, which `.._init` alone is passed: so duty 5 of net_base.h is kept. A struct of
- * zeros has no storage. In place of `.._init` you may set the struct to zeros, and then its
- * pointers and lengths. Read fields as you like, but let only these calls write the head.
+ * A call `net_bound_..` makes the call `net_base_..`, whose comment in net_base.h also says when it
+ * is refused. A refused call changes nothing, and returns a value that says so. A *run* is a waiting
+ * range, and a struct is *sound* if only these calls wrote it. Times are in microseconds. Each struct
+ * has the *head*, which is its numbers, and a pointer to each buffer with its length. Only `.._init`
+ * is passed these, so that you can't break duty 5 of net_base.h. In place of `.._init` you may set
+ * the struct to zeros, and then its pointers and lengths. Read fields as you like, but let only
+ * these calls write the head.
  *
  * In place of `NET_BASE_NONE` and `UINT64_MAX` these calls return 0. Where a packet is, they write
  * to `place`, and return false if there is none.
@@ -346,23 +346,23 @@ NET_BASE_MUST_USE static inline bool net_bound_receiving_end_is_due(
     return net_base_receiving_end_is_due(NET_BOUND_HEAD(end));
 }
 /** Returns whether an acknowledgement is to be sent within half a second (RFC 9293, 3.8.6.3): a
- * segment waits for one, or an update of the window is worth a segment. Once all has arrived no
- * update is. Ask it before you wait. A segment with bytes that you send in the meantime
+ * segment waits for one, or an update of the window is worth a segment. Once all has arrived, no
+ * update is wanted. Ask it before you wait. A segment with bytes that you send in the meantime
  * acknowledges too: ask again before you send one without. */
 NET_BASE_MUST_USE static inline bool net_bound_receiving_end_is_wanted(
     const struct net_bound_receiving_end *end) {
     return net_base_receiving_end_is_wanted(NET_BOUND_HEAD(end), NET_BOUND_CAPACITY(end));
 }
 /** Writes what a segment with bytes of its own tells, and returns true: the first missing position
- * to `next`, and to `window` the window, in units of the scale. The end counts both as told, so
- * send the segment. An acknowledgement that is due stays so: it lists ranges. */
+ * to `next`, and to `window` the window, in units of the scale. Once you have called it, send the
+ * segment. An acknowledgement that is due stays due, since this segment lists no ranges. */
 NET_BASE_MUST_USE static inline bool net_bound_receiving_end_announce(
     struct net_bound_receiving_end *end, uint64_t *next, uint16_t *window) {
     return net_base_receiving_end_announce(NET_BOUND_HEAD(end), NET_BOUND_CAPACITY(end), next,
         window);
 }
-/** Writes what a segment without bytes tells, and returns true. The end counts it as told, so send
- * the segment. What came twice is told once. */
+/** Writes what a segment without bytes tells, and returns true. Once you have called it, send the
+ * segment: what came twice is told once. */
 NET_BASE_MUST_USE static inline bool net_bound_receiving_end_acknowledgement(
     struct net_bound_receiving_end *end, struct net_base_acknowledgement *acknowledgement) {
     return net_base_receiving_end_acknowledgement(NET_BOUND_HEAD(end), NET_BOUND_CAPACITY(end),
@@ -385,8 +385,9 @@ struct net_bound_sending_end {
 };
 /** Makes `end` the sending side of a connection, whose stream begins at position `first`, and to
  * which nothing was written. `first_timeout` is the timeout, in microseconds, before any round
- * trip was measured: 1,000,000 for TCP (RFC 6298, 2.1), as which 0 counts. In `bounds` zeros count
- * as what the RFC says, but set `ack_delay`. The storage may have any values. */
+ * trip was measured. 0 means 1,000,000, as RFC 6298 (2.1) says. In `bounds` zeros mean what the
+ * RFC says, but set `ack_delay`: 200,000 for TCP, or 0 if the peer answers at once. The storage
+ * may have any values. */
 NET_BASE_MUST_USE static inline bool net_bound_sending_end_init(
     struct net_bound_sending_end *end, uint8_t *storage, size_t capacity, uint64_t first,
     uint64_t first_timeout, const struct net_base_timeout_bounds *bounds) {
@@ -403,9 +404,8 @@ NET_BASE_MUST_USE static inline bool net_bound_sending_end_is_sound(
  * it reports blocks (SACK). Without SACK no probe is sent, as the peer couldn't answer it.
  * `announcement.seq` is the SYN's position, and `announcement.ack` your first position, even if
  * the SYN has no ACK. `segment_size` counts bytes of the stream alone: pass the peer's MSS less
- * the options that each of your segments has (RFC 6691). What was written stays. It is done once,
- * before anything is sent; a second time begins with another peer, and the timer runs if something
- * is in flight. */
+ * the options that each of your segments has (RFC 6691). What was written stays. Call it once,
+ * before anything is sent. A second call begins with another peer. */
 NET_BASE_MUST_USE static inline bool net_bound_sending_end_open(
     struct net_bound_sending_end *end, const struct net_base_announcement *announcement,
     size_t segment_size, bool reports, int64_t now) {
@@ -437,7 +437,7 @@ static inline void net_bound_sending_end_close(struct net_bound_sending_end *end
     net_base_sending_end_close(NET_BOUND_HEAD(end));
 }
 /** Takes what a segment acknowledges and announces, and the blocks that it reports, as positions.
- * It `is_empty` if it has no byte and no FIN. Blocks of what wasn't sent say nothing. */
+ * Pass `is_empty` if the segment has no byte and no FIN. Blocks of what wasn't sent are ignored. */
 NET_BASE_MUST_USE static inline struct net_base_taken_acknowledgement
 net_bound_sending_end_acknowledged(
     struct net_bound_sending_end *end, const struct net_base_announcement *announcement,
@@ -495,13 +495,13 @@ NET_BASE_MUST_USE static inline uint64_t net_bound_sending_end_empty_segment_pos
     uint64_t number = net_base_sending_end_empty_segment_position(NET_BOUND_HEAD(end));
     return number == UINT64_MAX ? 0 : number;
 }
-/** Returns whether a recovery lasts. */
+/** Returns whether a recovery from a loss is in progress. */
 NET_BASE_MUST_USE static inline bool net_bound_sending_end_is_recovering(
     const struct net_bound_sending_end *end) {
     return net_base_sending_end_is_recovering(NET_BOUND_HEAD(end));
 }
 
-/* What a program asks besides, of fields of a head. Of null these return 0 or false. */
+/* Getters of fields of a head. Of null they return 0 or false. */
 
 /** Returns how many elements are queued. */
 NET_BASE_MUST_USE static inline size_t net_bound_ring_length(const struct net_bound_ring *ring) {

@@ -1,10 +1,11 @@
-/* A ring of bytes that two sides share without a lock: threads, or an interrupt and what it interrupts. Any program may
- * have a copy; docs/C.md says what it isn't for.
+/* SPDX-License-Identifier: 0BSD
+ * A ring of bytes that two sides share without a lock: threads, or an interrupt and what it interrupts. Any program may
+ * have a copy. For other elements, or for more writers or readers, docs/C.md has another ring.
  *
  * With an RTOS nothing else is needed between one interrupt and one task. To let the task sleep, notify it after the put:
  * in FreeRTOS by vTaskNotifyGiveFromISR, for which the task waits by ulTaskNotifyTake. We haven't tried this. If two
  * tasks write, they need a mutex between them. With DMA into a buffer of its own, let the interrupts of half, full and
- * idle put what is new into the ring.
+ * idle put what is new into the ring; they need one priority, since one side alone may write.
  */
 #ifndef BYTE_RING_H
 #define BYTE_RING_H
@@ -30,7 +31,7 @@ typedef _Atomic size_t byte_ring_count;
 #endif
 BYTE_RING_ASSERT(BYTE_RING_SIZE > 0 && (BYTE_RING_SIZE & (BYTE_RING_SIZE - 1)) == 0, "a power of two: counts wrap");
 
-/* A ring of zeros is empty. Both counts run free: what is in it is their difference. */
+/* A ring of zeros is empty. The counts wrap freely: it has `in - out` bytes. */
 struct byte_ring {
     byte_ring_count in, out;
     uint8_t bytes[BYTE_RING_SIZE];

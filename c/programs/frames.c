@@ -1,10 +1,12 @@
 /* Streams of bytes both ways between two devices over a noisy UART, in frames of one's own, in
  * simulated time: `frames [SEED]`. The line flips bits, and loses and inserts bytes.
  *
- * Of TCP there is no SYN, since both devices know where the streams begin and the windows then; no
- * net_bound_receiving_end_classify, since no stranger sends, and the ends test each number; no
- * SACK; no congestion window, since nobody else uses the line; and no TIME-WAIT, since a device
- * that is done still acknowledges.
+ * It leaves out of TCP
+ * - the SYN: both devices know the first position and the window;
+ * - net_bound_receiving_end_classify: no stranger sends, and the ends test each number;
+ * - SACK;
+ * - a congestion window: nobody else uses the line;
+ * - TIME-WAIT: a device that is done still acknowledges.
  */
 #include "byte_ring.h"
 #include "net_bound.h"
@@ -19,6 +21,7 @@ enum { FLAG = 0x7e, ESCAPE = 0x7d, FLIPS = 0x20, HEADER = 7, SEGMENT = 64, CHECK
 enum { FRAME = HEADER + SEGMENT + CHECK, ROOM = 1024, BYTES = 20000, BYTE_TIME = 87 };
 /* The most bytes of a frame without a segment's bytes, and of one with them: each is escaped. */
 enum { SHORTEST = 2 + 2 * (HEADER + CHECK), LONGEST = 2 + 2 * FRAME };
+_Static_assert(LONGEST + SHORTEST <= BYTE_RING_SIZE, "the ring has room for a frame and an answer");
 
 /* Where both streams begin: not below 32768, so that also a number before it has a position. */
 static const uint64_t FIRST = 65536;
@@ -37,7 +40,7 @@ struct device {
     unsigned frames, damaged;
 };
 
-/* CRC-32, since one of 16 bits lets 1 of 65,536 pass. Inverted, or it lets a zero after it pass. */
+/* CRC-32, since one of 16 bits lets 1 of 65,536 pass. Inverted, so that it sees a zero after it. */
 static uint32_t crc(const uint8_t *bytes, size_t size) {
     uint32_t sum = UINT32_MAX;
     for (size_t i = 0; i < 8 * size; i++) {
@@ -125,9 +128,9 @@ static void take_frame(struct device *d, size_t size, int64_t now) {
         position_of(get_number(d->frame + 2, 2), unacknowledged), get_number(d->frame + 4, 2)};
     struct net_base_taken_acknowledgement taken =
         net_bound_sending_end_acknowledged(&d->sending, &announced, NULL, 0, is_empty, now);
-    /* It acknowledges what wasn't sent: a device began again. Yours needs a frame that says so. */
+    /* It acknowledges what wasn't sent: the peer has restarted. Yours needs a frame that says so. */
     if (taken.status == NET_BASE_ACKNOWLEDGED_ANSWER) return;
-    /* What isn't kept, by whatever status, is acknowledged at once, and the peer sends it again. */
+    /* If bytes aren't kept, an acknowledgement is due at once, and the peer sends them again. */
     (void)net_bound_receiving_end_arrived(
         &d->receiving, announced.seq, d->frame + HEADER, size - HEADER, is_last, &counts);
     if (net_bound_receiving_end_is_due(&d->receiving)) acknowledge(d);

@@ -1,5 +1,6 @@
-/* UDP datagrams that arrive as IPv4 fragments, some twice, some not at all: they are put together,
- * checked and queued, and each that is queued is answered by an echo, which is compared.
+/* A test, and no driver: UDP datagrams that arrive as IPv4 fragments, some twice, some not at all,
+ * are put together, checked and queued. Each that is queued is answered by an echo, which is
+ * compared. All are of one peer, without IP options.
  */
 #include "net_bound.h"
 #include <stdio.h>

@@ -99,8 +99,8 @@ static void shrink(bool is_timeout) {
     window = is_timeout ? segment_size : threshold;
 }
 
-/* Slow start, also after a timeout, by less then (RFC 3465), and congestion avoidance (RFC 5681),
- * but in no recovery. More than there is room for is no use. */
+/* Slow start, after a timeout by less (RFC 3465), and congestion avoidance (RFC 5681), but not in a
+ * recovery, nor above the room that there is. */
 static void grow(uint64_t count) {
     bool is_recovering = net_bound_sending_end_is_recovering(&sending);
     uint64_t most = is_recovering ? segment_size : 2 * segment_size;
@@ -268,7 +268,7 @@ static void take_segment(const struct header *h, const uint8_t *data, size_t siz
     /* All of it came before: the answer says so (RFC 2883). Nothing of it is kept. */
     bool is_old = answers && !syn && !rst && numbers.seq <= next && size <= next - numbers.seq;
     bool takes = arrival == NET_BASE_ARRIVAL_TAKE && numbers.len > 0;
-    /* What can't be kept, by whatever reply, the peer sends again. */
+    /* Whatever isn't kept, the peer sends again. */
     if ((takes || is_old)
         && net_bound_receiving_end_arrived(
                &receiving, numbers.seq, data, size, takes && fin, &counts)
@@ -299,7 +299,7 @@ static void take_packet(const uint8_t *packet, size_t size, int64_t now) {
         || !net_bound_sending_end_is_done(&sending))
         return;
     state = TIME_WAIT;
-    if (!connects) end_connection(); /* It closed after the peer, whose TIME-WAIT is. */
+    if (!connects) end_connection(); /* The peer closed first, so TIME-WAIT is the peer's. */
 }
 
 /* Writes back what has come, as far as there is room, and closes after the peer's last byte. */

@@ -157,9 +157,10 @@ fn sizes() {
     use net_base::finite::{FiniteReceiver, SendBuffer, SendRanges, StreamRanges};
     use net_base::receiver::Receiver;
 
-    println!("Receiver {} and {}", size_of::<Receiver<'_, 4>>(), size_of::<Receiver<'_, 32>>());
+    let receiver = (size_of::<Receiver<'_, 4>>(), size_of::<Receiver<'_, 32>>());
+    println!("Receiver {} (N = 4), {} (N = 32)", receiver.0, receiver.1);
     let finite = (size_of::<FiniteReceiver<'_, 4>>(), size_of::<FiniteReceiver<'_, 32>>());
-    println!("FiniteReceiver {} and {}", finite.0, finite.1);
+    println!("FiniteReceiver {} (N = 4), {} (N = 32)", finite.0, finite.1);
     println!("StreamRanges {}", size_of::<StreamRanges<'_>>());
     println!("SendRanges {}", size_of::<SendRanges<'_>>());
     println!("SendBuffer {}", size_of::<SendBuffer<'_>>());

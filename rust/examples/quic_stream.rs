@@ -16,9 +16,9 @@ const SIZE: usize = 500;
 /// How many bytes the receiving side lets be unread, and how many at first.
 const CAPACITY: usize = 8_000;
 const BEGIN: usize = 1_000;
-/// How many ranges may wait there. Without a limit a peer's tiny frames, with a hole before each, take memory as they like
-/// (RFC 9000, section 21.7).
-const MOST_RUNS: usize = 100;
+/// How many ranges may wait there, and be remembered by the sending side. Without a limit a peer's tiny frames, with a
+/// hole before each, take memory as they like (RFC 9000, section 21.7).
+const MOST_RUNS: usize = 1_024;
 /// How many packets may be in flight.
 const WINDOW: usize = 16;
 /// How many packets may overtake one before it counts as lost: RFC 9002 has 3, and this path has packets come as they like.
@@ -50,21 +50,21 @@ impl Path {
     }
 }
 
-/// A packet that isn't acknowledged yet: the range of the stream that it carried.
+/// A packet that isn't acknowledged yet.
 struct SentPacket {
-    range: Range<u64>,
-    is_probed: bool,
+    range: Range<u64>, // of the stream, in its frame
+    is_probed: bool,   // a newer packet has the same bytes
 }
 
-/// The side that sends: the bytes, what is known of them, and the packets by number.
+/// The side that sends.
 struct Sender<'a> {
     data: &'a [u8],
     stream: SendRanges<'static>,
-    packets: BTreeMap<u64, SentPacket>,
+    packets: BTreeMap<u64, SentPacket>, // by number
     next_number: u64,
-    max_stream_data: u64,
-    losses: usize,
-    heard: u64,
+    max_stream_data: u64, // the peer's
+    losses: usize,        // calls of `lose` since nothing was lost
+    timer_began: u64,
 }
 
 impl Sender<'_> {
@@ -75,12 +75,13 @@ impl Sender<'_> {
 
     /// Sends a packet with a STREAM frame, unless there is nothing to send.
     fn send_packet(&mut self, path: &mut Path, now: u64) -> bool {
-        let Some(range) = self.stream.next(self.max_stream_data, SIZE) else {
-            return false; // all is in flight or acknowledged, or the limit is reached
-        };
-        if range.start >= self.stream.numbers().sent {
+        let next = self.stream.next(self.max_stream_data, SIZE);
+        if next.as_ref().is_none_or(|range| range.start >= self.stream.numbers().sent) {
             self.losses = 0; // all that was lost is sent again
         }
+        let Some(range) = next else {
+            return false; // all is in flight or acknowledged, or the limit is reached
+        };
         let fin = self.stream.has_fin(&range);
         let end = range.end - u64::from(fin); // the FIN's position has no byte
         let data = self.data[range.start as usize..end as usize].to_vec();
@@ -96,7 +97,7 @@ impl Sender<'_> {
     fn acknowledged(&mut self, numbers: &[u64], now: u64) {
         for number in numbers {
             let Some(packet) = self.packets.remove(number) else { continue };
-            self.heard = now;
+            self.timer_began = now;
             self.on_acknowledged(packet);
             let in_flight = self.packets.split_off(&(number + 1).saturating_sub(OVERTAKING));
             for lost in mem::replace(&mut self.packets, in_flight).into_values() {
@@ -106,50 +107,66 @@ impl Sender<'_> {
     }
 
     fn on_acknowledged(&mut self, packet: SentPacket) {
+        if packet.range.start > self.stream.numbers().first_unacknowledged {
+            self.allow_hole();
+        }
         let reply = self.stream.acknowledge(packet.range.clone()).expect("it was sent");
-        if reply.sent_again {
-            self.make_room(); // the range couldn't be remembered: now it can
+        if reply.sent_again && self.make_room() {
+            // There was no room to remember the range, and now there is.
             self.stream.acknowledge(packet.range).expect("it was sent");
         }
     }
 
     fn on_lost(&mut self, packet: SentPacket) {
-        if packet.is_probed {
-            return; // a newer packet has these bytes
+        if !packet.is_probed {
+            self.lose(packet.range);
         }
-        if self.losses >= self.stream.most_runs() {
-            self.make_room(); // otherwise more than this packet may be lost
-        }
+    }
+
+    fn lose(&mut self, range: Range<u64>) {
+        self.allow_hole();
         self.losses += 1;
-        assert!(self.stream.lose(packet.range), "it was sent");
+        assert!(self.stream.lose(range), "it was sent");
     }
 
-    fn make_room(&mut self) {
-        let runs = vec![Run::EMPTY; (2 * self.stream.most_runs()).max(8)];
-        self.stream.grow_runs(runs.clone().into(), runs.into());
+    /// Makes room for one more hole in what is in flight. Without it more is lost than this hole.
+    fn allow_hole(&mut self) {
+        if self.losses >= self.stream.most_runs() {
+            self.make_room();
+        }
     }
 
-    /// Sends a probe: new data if there is some, or else the oldest bytes again.
+    /// Makes room for more ranges, if there may be.
+    fn make_room(&mut self) -> bool {
+        let most = self.stream.most_runs();
+        if most < MOST_RUNS {
+            let runs = vec![Run::EMPTY; (2 * most).clamp(8, MOST_RUNS)];
+            self.stream.grow_runs(runs.clone().into(), runs.into());
+        }
+        most < MOST_RUNS
+    }
+
+    /// Sends a probe: what is due if there is anything, or else the oldest bytes again.
     fn probe(&mut self, path: &mut Path, now: u64) {
-        self.heard = now;
+        self.timer_began = now;
         if self.send_packet(path, now) {
             return;
         }
         if let Some(oldest) = self.packets.values_mut().find(|packet| !packet.is_probed) {
             oldest.is_probed = true;
-            assert!(self.stream.lose(oldest.range.clone()), "it was sent");
-            self.send_packet(path, now); // if that sends nothing either, send a PING
+            let range = oldest.range.clone();
+            self.lose(range);
         }
+        self.send_packet(path, now); // a PING, if this sends nothing either
     }
 }
 
-/// The side that receives: which bytes came, these bytes by position, the MAX_STREAM_DATA that it announced last, and the
-/// highest end of a frame.
+/// The side that receives.
 struct Receiver {
     stream: StreamRanges<'static>,
-    chunks: BTreeMap<u64, Vec<u8>>,
-    announced: u64,
-    highest: u64,
+    chunks: BTreeMap<u64, Vec<u8>>, // bytes that came, by position
+    announced: u64,                 // the last MAX_STREAM_DATA
+    highest: u64,                   // end of a frame
 }
 
 impl Receiver {
@@ -169,9 +186,9 @@ impl Receiver {
                     let new = (part.start - offset) as usize..(part.end - offset) as usize;
                     self.chunks.insert(part.start, data[new].to_vec());
                 }
-                Ok(None) => return Ok(()), // all that was new is stored
+                Ok(None) => return Ok(()), // all that is new is stored
                 Err(FiniteError::TooManyHoles) if self.stream.most_runs() < MOST_RUNS => {
-                    let runs = vec![Run::EMPTY; (2 * self.stream.most_runs()).max(8)];
+                    let runs = vec![Run::EMPTY; (2 * self.stream.most_runs()).clamp(8, MOST_RUNS)];
                     self.stream.grow_runs(runs.into()); // and try again
                 }
                 Err(FiniteError::OtherEnd) => return Err("FINAL_SIZE_ERROR"),
@@ -213,7 +230,7 @@ fn main() {
         next_number: 0,
         max_stream_data: BEGIN as u64,
         losses: 0,
-        heard: 0,
+        timer_began: 0,
     };
     assert_eq!(sender.stream.write(file.len() as u64), file.len() as u64);
     sender.stream.close();
@@ -239,7 +256,7 @@ fn main() {
             }
             None => {}
         }
-        if now >= sender.heard + TIMEOUT {
+        if now >= sender.timer_began + TIMEOUT {
             sender.probe(&mut path, now);
         }
     }

@@ -13,7 +13,7 @@ from parts import ROOT
 from parts.erase_list import PACKAGES
 
 # What no file counts: what is asked for, and versions.
-FIXED = ["32 or 64 bits", "smoltcp 0.14.0", "until 1.0", "Rust 1.87 and Python 3.9", "smoltcp's is 1", "[0BSD]",
+FIXED = ["has 64 bits", "hold for 32 bits", "smoltcp 0.14.0", "until 1.0", "Rust 1.87 and Python 3.9", "smoltcp's is 1", "[0BSD]",
          "1,460 bytes", "quinn-proto 0.11.9", "N = 4", "two segments of 16 bytes",
          "checksum of 40 bytes", "round trip of 1 ms", "With 10 % lost", "with 5 % delayed", "0.75 of Reno's MB/s"]
 WORDS = [*"none one two three four five six seven eight nine ten eleven twelve".split(), *map(str, range(13, 100))]
@@ -71,7 +71,7 @@ def measured():
     yield "bytes of code | {} | {} |", sizes, span([*ratios, *(ratio for row in ours for ratio in row)])
     quinn = cells("compare/results/quinn.md")
     tests, transfers = (next(row for row in quinn if row[0] == name) for name in ("pass", "256"))
-    yield "passes {} of its {} tests. The other four", "compare/results/quinn.md", re.findall(r"\d+", tests[2])
+    yield "passes {} of its {} tests", "compare/results/quinn.md", re.findall(r"\d+", tests[2])
     yield "In {} of {} transfers", "compare/results/quinn.md", re.findall(r"\d+", transfers[1])
     times_of = {row[0]: value(row[3]) for row in quinn if len(row) == 6 and re.fullmatch(r"[\d,]+", row[1])}
     sent = {name: ratio for name, ratio in times_of.items() if " by " in name}
@@ -94,7 +94,7 @@ def counted():
     for text in ("has to refuse each of {} [wrong", "also broke [{} functions]"):
         yield text, "crates/must-fail.md", [str(count(r"^\| .* \| `.*` \| `", "crates/must-fail.md"))]
     edits = "crates/*/must-fail/*.edit"
-    yield "and named tests catch {}", edits, [str(count("^# test: ", edits))]
+    yield "Tests catch {} of them", edits, [str(count("^# test: ", edits))]
     model = "rust/examples/plain_model.rs"
     yield "every list of {} calls", model, [WORDS[int(first(r"pow\((\d)\)", model))]]
     ends, reads = first(r"CAPACITY: u64 = (\d+)", model), count(r"Call::Read\(\d", model)

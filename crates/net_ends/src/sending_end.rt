@@ -77,7 +77,7 @@ pub enum Acknowledged {
     },
 }
 
-/// What the segment of an acknowledgement has besides.
+/// Whether the segment that brings an acknowledgement has anything else.
 ///
 /// ```
 /// # use net_tcp::{AckSegment, Acknowledged, SendingEnd};
@@ -109,7 +109,7 @@ impl AckSegment {
     }
 }
 
-/// What the timer's end means.
+/// What [`SendingEnd::expired`] says: whether the timer has ended, and what to do then.
 ///
 /// ```
 /// # use net_tcp::{Expired, SendingEnd};

@@ -40,9 +40,9 @@
 //! 5. A storage, its runs and its slots have the same lengths in each call on a head.
 //! 6. A head, its runs and its slots are written by calls of its own kind alone. For a finite receiver these are
 //!    `net_base_finite_receiver_..`, and its `place` isn't written by `net_base_ring_..`. You may set a head to zeros.
-//! 7. A head is made by its `.._init`, or of zeros, before another call is passed it. With duties 5 and 6 it then is
-//!    *sound*: head and runs are such as calls of its kind leave. A comment that says `Requires` needs that, and a call
-//!    whose name ends in `_is_sound` tests it, for a head that anything else may have written.
+//! 7. Call a head's `.._init` before its other calls, or set it to zeros. With duties 5 and 6 it then is *sound*: head
+//!    and runs are such as calls of its kind leave. A comment that says `Requires` needs that, and a call whose name
+//!    ends in `_is_sound` tests it, for a head that anything else may have written.
 //!
 //! # Refusals
 //!
@@ -54,7 +54,7 @@
 //! - a status: its `NET_BASE_.._REFUSED`, which is never returned for anything else
 //! - `size_t`: `NET_BASE_NONE`
 //! - `uint64_t`: `UINT64_MAX`
-//! - `uint16_t`: 0, for a null pointer or such a `bool` alone
+//! - `uint16_t`: 0
 //! - a struct: the same in its first field, and in the others what the comment of the call says
 //! - `void`: nothing
 //!

@@ -469,9 +469,9 @@ pub extern "C" fn net_base_receiving_end_is_due(end: &ReceivingEnd) -> bool
 }
 
 /// Returns whether an acknowledgement is to be sent within half a second (RFC 9293, 3.8.6.3): a segment waits for one,
-/// or an update of the window is worth a segment. `capacity` is how many bytes the storage has. Once all has arrived
-/// no update is. Ask it before you wait. A segment with bytes that you send in the meantime acknowledges too: ask
-/// again before you send one without.
+/// or an update of the window is worth a segment. `capacity` is how many bytes the storage has. Once all has arrived,
+/// no update is wanted. Ask it before you wait. A segment with bytes that you send in the meantime acknowledges too:
+/// ask again before you send one without.
 ///
 /// It is refused if `end` isn't one over `capacity` bytes: false.
 ///
@@ -490,8 +490,8 @@ pub extern "C" fn net_base_receiving_end_is_wanted(end: &ReceivingEnd, capacity:
 }
 
 /// Writes what a segment with bytes of its own tells, and returns true: the first missing position to `next`, and to
-/// `window` the window, in units of the scale. The end counts both as told, so send the segment. An acknowledgement
-/// that is due stays so: it lists ranges.
+/// `window` the window, in units of the scale. Once you have called it, send the segment. An acknowledgement that is
+/// due stays due, since this segment lists no ranges.
 ///
 /// It is refused if `end` isn't one over `capacity` bytes: false, and nothing changes.
 ///
@@ -525,8 +525,8 @@ pub extern "C" fn net_base_receiving_end_announce(
     true
 }
 
-/// Writes what a segment without bytes tells, and returns true. The end counts it as told, so send the segment. What
-/// came twice is told once. `capacity` is how many bytes the storage has.
+/// Writes what a segment without bytes tells, and returns true. Once you have called it, send the segment: what came
+/// twice is told once. `capacity` is how many bytes the storage has.
 ///
 /// It is refused if `end` isn't one over `capacity` bytes: false, and nothing changes.
 ///

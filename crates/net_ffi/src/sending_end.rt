@@ -85,7 +85,7 @@ pub struct TakenAcknowledgement {
     pub begins: bool,
 }
 
-/// What the timer's end means.
+/// Whether the timer has ended, and what that means.
 #[repr(C)]
 #[derive(Copy, Clone, Debug)]
 pub struct EndedTimer {
@@ -396,9 +396,9 @@ fn new_end(first: u64, first_timeout: u64, bounds: &TimeoutBounds) -> SendingEnd
 }
 
 /// Makes `end` the sending side of a connection, whose stream begins at position `first`, and to which nothing was
-/// written. `first_timeout` is the timeout, in microseconds, before any round trip was measured: 1,000,000 for TCP (RFC
-/// 6298, 2.1), as which 0 counts. In `bounds` zeros count as what the RFC says, but set `ack_delay`. The storage may
-/// have any values.
+/// written. `first_timeout` is the timeout, in microseconds, before any round trip was measured. 0 means 1,000,000, as
+/// RFC 6298 (2.1) says. In `bounds` zeros mean what the RFC says, but set `ack_delay`: 200,000 for TCP, or 0 if the
+/// peer answers at once. The storage may have any values.
 ///
 /// It is refused if `first` is `u64::MAX`, since an end there would have no number after it: false, and nothing
 /// changes.
@@ -436,8 +436,8 @@ pub extern "C" fn net_base_sending_end_is_sound(end: &SendingEnd, capacity: usiz
 /// Begins with a peer, whose SYN announced a window, how many bytes a segment may have, and whether it reports blocks
 /// (SACK). Without SACK no probe is sent, as the peer couldn't answer it. `announcement.seq` is the SYN's position, and
 /// `announcement.ack` your first position, even if the SYN has no ACK. `segment_size` counts bytes of the stream alone:
-/// pass the peer's MSS less the options that each of your segments has (RFC 6691). What was written stays. It is done
-/// once, before anything is sent; a second time begins with another peer, and the timer runs if something is in flight.
+/// pass the peer's MSS less the options that each of your segments has (RFC 6691). What was written stays. Call it
+/// once, before anything is sent. A second call begins with another peer.
 ///
 /// It is refused if `end` isn't sound over `capacity` bytes: false, and nothing changes.
 #[unsafe(no_mangle)]
@@ -548,8 +548,8 @@ pub extern "C" fn net_base_sending_end_close(end: &mut SendingEnd)
     end.sender.close();
 }
 
-/// Takes what a segment acknowledges and announces, and the blocks that it reports, as positions. It `is_empty` if it
-/// has no byte and no FIN. Blocks of what wasn't sent say nothing.
+/// Takes what a segment acknowledges and announces, and the blocks that it reports, as positions. Pass `is_empty` if
+/// the segment has no byte and no FIN. Blocks of what wasn't sent are ignored.
 ///
 /// It is refused if `end` isn't sound over `capacity` bytes, or if there are more than 4 blocks: `count` is 0,
 /// `reports` and `begins` are false, the status is `NET_BASE_REFUSED`, and nothing changes.
@@ -773,7 +773,7 @@ pub extern "C" fn net_base_sending_end_empty_segment_position(end: &SendingEnd) 
         .empty_segment_position(numbers_from(&end.sender))
 }
 
-/// Returns whether a recovery lasts.
+/// Returns whether a recovery from a loss is in progress.
 ///
 /// It is refused if the first position that isn't acknowledged doesn't fit 64 bits: false.
 #[unsafe(no_mangle)]

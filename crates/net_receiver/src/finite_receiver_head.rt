@@ -36,7 +36,7 @@ pub(crate) const NO_END: u64 = u64::MAX;
 pub struct FiniteReceiverHead {
     /// The receiver of the bytes.
     pub receiver: ReceiverHead,
-    /// The number after the end's, which is acknowledged once all has arrived, or 0 while the end isn't known.
+    /// The position after the end's, or 0 while the end isn't known. It is acknowledged once all has arrived.
     pub after_end: u64,
 }
 

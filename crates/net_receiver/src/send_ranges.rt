@@ -90,11 +90,12 @@ pub struct NotSent;
 /// There are two storages of ranges (*runs*, in names), with room for `most_runs` each. `acknowledged` stores ranges
 /// that were acknowledged out of order, `sent` those in flight above the first lost byte. Where one has no room, some
 /// positions are sent twice, but none is forgotten: each is acknowledged, in flight, or offered again by `next`. With
-/// no room at all, a loss loses all that was sent from there on.
+/// no room at all, a loss or an acknowledgement out of order loses all that was sent from there on.
 ///
 /// Room for half as many ranges as packets sent from the first unacknowledged byte on is always enough, and mostly less
-/// is. If the storages can grow, count the calls of `lose` since `next` last returned new bytes, and call `grow_runs`
-/// before there are more of them than `most_runs`. If `acknowledge` sets `sent_again`, grow, and call it once more.
+/// is. If the storages can grow, make room before the first packet is lost or is acknowledged out of order. Count the
+/// calls of `lose` since `next` last returned new bytes or `None`, and grow before there are more of them than
+/// `most_runs`. If `acknowledge` sets `sent_again`, grow, and call it once more.
 ///
 /// No call allocates.
 pub struct SendRangesOver<R: Storage<Run>> {
@@ -327,7 +328,7 @@ impl<R: Storage<Run>> SendRangesOver<R> {
     }
 
     /// Returns the first position that isn't acknowledged, and the one after the last that was sent. A range from
-    /// `next` that starts below the latter is sent again.
+    /// `next` that starts below the second is a retransmission.
     ///
     /// ```
     /// # use net_base::finite::SendRanges;

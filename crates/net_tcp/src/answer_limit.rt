@@ -11,8 +11,8 @@ use net_base::time::{Duration, Instant};
 /// After an answer to a segment that may be an answer itself, the next one waits so long, in microseconds.
 const PERIOD: u64 = 500_000;
 
-/// Limits how often a segment is answered of which nothing is taken: one of which `classify` says `Answer`, or that
-/// acknowledges what `is_acknowledgement` refuses. Whatever a peer or a forger sends, no two ends then answer each
+/// Limits how often you answer segments of which nothing is taken: those of which `classify` says `Answer`, or that
+/// acknowledge what `is_acknowledgement` refuses. Whatever a peer or a forger sends, no two ends then answer each
 /// other's answers without end (RFC 5961, section 7).
 ///
 /// A segment without positions, which may be an answer itself, and a SYN are answered at most twice a second, as Linux

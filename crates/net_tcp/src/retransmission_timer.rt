@@ -28,7 +28,7 @@ const FIRST_TIMEOUT: u64 = 1_000_000;
 /// After so many segments alone in a row whose acknowledgements weren't late, that of the next isn't expected to be.
 const PROMPT: u64 = 8;
 
-/// What is due where a timer has expired.
+/// What [`RetransmissionTimer::expire`] says is to be sent.
 ///
 /// ```
 /// use net_tcp::{Expiry, RetransmissionTimer, Sack, SentNumbers, TimeoutBounds};

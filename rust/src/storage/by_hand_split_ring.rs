@@ -7,10 +7,10 @@ use super::{SplitCounts, SplitSpan};
 ///
 /// [`split`](Self::split) gives each side its end. With a `static`, only one side may call [`write`](Self::write),
 /// and only the other [`read`](Self::read). If two sides write at once, or two read, bytes are lost or mixed up, and
-/// from then on both calls may return 0. Nothing panics, and no other memory is touched.
+/// from then on both calls may return 0, until the program restarts. Nothing panics, and no other memory is touched.
 ///
-/// The index arithmetic is proved, by [`SplitCounts`]. The memory ordering is only tested, on each interleaving of
-/// the steps of small programs. (Not in smoltcp.)
+/// The index arithmetic is proved, by [`SplitCounts`]. The memory ordering isn't: small programs were tested in each
+/// order of their steps, and none ran on a processor whose memory is weakly ordered. (Not in smoltcp.)
 ///
 /// ```
 /// use net_base::storage::SplitRing;

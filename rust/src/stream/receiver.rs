@@ -27,9 +27,9 @@ use core::ops::Range;
 /// before a waiting range is a *hole*.
 ///
 /// ```text
-/// position  first           next                       window_end
-///           |  read  | queued |      |held |   |held|      |
-///                    |------------- capacity --------------|
+/// position  first           next                             window_end
+///           |  read  | queued |      |waiting|   |waiting|      |
+///                    |---------------- capacity ----------------|
 /// ```
 ///
 /// The byte at position `p` has the index `(p - first) % capacity` in the storage.
@@ -133,7 +133,7 @@ impl<S: Storage<u8>, const N: usize> ReceiverOver<S, N> {
     /// waits stays at its positions. The window grows by as much as the storage does.
     ///
     /// So a receiver can begin small, and a window that TCP or QUIC raises later costs memory only then. Each byte of
-    /// the old storage is copied once. (Not in smoltcp.)
+    /// the old storage is copied once.
     ///
     /// ```
     /// # use net_base::receiver::Receiver;

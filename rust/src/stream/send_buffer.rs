@@ -227,7 +227,7 @@ impl<S: Storage<u8>, R: Storage<Run>> SendBufferOver<S, R> {
     }
 
     /// Returns the first position that isn't acknowledged, and the one after the last that was sent. A range from
-    /// `next` that starts below the latter is sent again.
+    /// `next` that starts below the second is a retransmission.
     ///
     /// ```
     /// # use net_base::finite::SendBuffer;
@@ -445,9 +445,8 @@ impl<S: Storage<u8>, R: Storage<Run>> SendBufferOver<S, R> {
     /// of it is sent again. Ranges may be lost in any order. Returns false, and changes nothing, if the range ends
     /// above what was sent.
     ///
-    /// A loss in the middle of a range in flight leaves two ranges. If there is no room for one more, the shorter of
-    /// the two is lost too. The call doesn't report that: make room as [`SendRangesOver`] says, or grow when
-    /// `acknowledge` sets `sent_again`.
+    /// A loss in the middle of a range in flight leaves two ranges. If there is no room for one more, some of what is
+    /// in flight beside it is lost too. The call doesn't report that: make room as [`SendRangesOver`] says.
     ///
     /// ```
     /// # use net_base::finite::SendBuffer;

@@ -126,7 +126,7 @@ impl<B: Storage<u8>, const N: usize> FragmentsOver<B, N> {
         }
     }
 
-    /// Returns the storage, with the bytes that fragments wrote to it. (Not in smoltcp.)
+    /// Returns the storage, with the bytes that fragments wrote to it.
     ///
     /// ```
     /// # use net_base::storage::FragmentsOver;
@@ -322,7 +322,7 @@ impl<B: Storage<u8>, const N: usize> FragmentsOver<B, N> {
             .set_total_size(self.bytes.count(), &self.runs, size)
     }
 
-    /// Returns the packet's size, once it is known. (Not in smoltcp.)
+    /// Returns the packet's size, once it is known.
     ///
     /// ```
     /// # use net_base::storage::{FragmentBuffer, FragmentError};
@@ -347,7 +347,7 @@ impl<B: Storage<u8>, const N: usize> FragmentsOver<B, N> {
     /// may end past the buffer.
     ///
     /// Ask before `add`, to drop a packet whose fragments overlap (RFC 5722). A fragment that
-    /// arrives twice overlaps too: to allow that, ask `differs`. (Not in smoltcp.)
+    /// arrives twice overlaps too: to allow that, ask `differs`.
     ///
     /// ```
     /// # use net_base::storage::{FragmentBuffer, FragmentError};
@@ -368,8 +368,7 @@ impl<B: Storage<u8>, const N: usize> FragmentsOver<B, N> {
     /// Returns whether a fragment at `offset` has another byte than one that has arrived. It may
     /// end past the buffer.
     ///
-    /// Ask before `add`, to refuse fragments that disagree, and accept one that arrives twice. (Not
-    /// in smoltcp.)
+    /// Ask before `add`, to refuse fragments that disagree, and accept one that arrives twice.
     ///
     /// ```
     /// # use net_base::storage::{FragmentBuffer, FragmentError};
@@ -418,8 +417,7 @@ impl<B: Storage<u8>, const N: usize> FragmentsOver<B, N> {
     /// Shows the `len` bytes of the packet from `offset` on, even if others are missing; `None` if
     /// one of them is missing or past the buffer.
     ///
-    /// ICMP's "time exceeded" (RFC 792) quotes the first bytes of a packet that has expired. (Not
-    /// in smoltcp.)
+    /// ICMP's "time exceeded" (RFC 792) quotes the first bytes of a packet that has expired.
     ///
     /// ```
     /// # use net_base::storage::{FragmentBuffer, FragmentError};
