@@ -63,7 +63,7 @@ struct Sender<'a> {
     packets: BTreeMap<u64, SentPacket>, // by number
     next_number: u64,
     max_stream_data: u64, // the peer's
-    losses: usize,        // calls of `lose` since nothing was lost
+    losses: usize,        // calls of `lose` since `next` found nothing lost
     timer_began: u64,
 }
 
@@ -129,7 +129,7 @@ impl Sender<'_> {
         assert!(self.stream.lose(range), "it was sent");
     }
 
-    /// Makes room for one more hole in what is in flight. Without it more is lost than this hole.
+    /// Makes room for one more hole in what is in flight. Otherwise more is lost than this hole.
     fn allow_hole(&mut self) {
         if self.losses >= self.stream.most_runs() {
             self.make_room();
@@ -157,7 +157,7 @@ impl Sender<'_> {
             let range = oldest.range.clone();
             self.lose(range);
         }
-        self.send_packet(path, now); // a PING, if this sends nothing either
+        self.send_packet(path, now); // if this returns false too, send a PING
     }
 }
 
@@ -166,13 +166,13 @@ struct Receiver {
     stream: StreamRanges<'static>,
     chunks: BTreeMap<u64, Vec<u8>>, // bytes that came, by position
     announced: u64,                 // the last MAX_STREAM_DATA
-    highest: u64,                   // end of a frame
+    highest: u64,                   // end of any frame so far
 }
 
 impl Receiver {
     /// Takes a STREAM frame, or returns the error with which the connection closes.
     fn receive(&mut self, offset: u64, data: &[u8], fin: bool) -> Result<(), &'static str> {
-        let end = offset + data.len() as u64;
+        let end = offset + data.len() as u64; // below 2^63, as both are varints
         if end > self.announced {
             return Err("FLOW_CONTROL_ERROR");
         }
@@ -208,7 +208,8 @@ impl Receiver {
 
     /// Returns the MAX_STREAM_DATA to announce now. It never falls.
     fn announce(&mut self) -> u64 {
-        self.announced = self.stream.window_end().expect("offsets are below 2^62");
+        let end = self.stream.window_end().expect("the capacity is small");
+        self.announced = end.min((1 << 62) - 1);
         self.announced
     }
 }

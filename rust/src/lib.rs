@@ -94,8 +94,9 @@
 //! # Panics
 //!
 //! A call panics only if you break a precondition, which the section "Panics" of its page names, and then in every
-//! build. [`keep`](receiver::ReceiverOver::keep) and most other calls that take data from a packet have none. Calls that
-//! have one, such as [`segment`](receiver::ReceiverOver::segment), are listed in `docs/GUIDE.md` of the repository.
+//! build. [`keep`](receiver::ReceiverOver::keep) and most other calls that take data from a packet have none.
+//! `docs/GUIDE.md` of the repository lists calls that have one and take a number, such as
+//! [`segment`](receiver::ReceiverOver::segment).
 //!
 //! # Guarantees
 //!

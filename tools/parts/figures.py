@@ -76,8 +76,8 @@ def measured():
     times_of = {row[0]: value(row[3]) for row in quinn if len(row) == 6 and re.fullmatch(r"[\d,]+", row[1])}
     sent = {name: ratio for name, ratio in times_of.items() if " by " in name}
     received = [ratio for name, ratio in times_of.items() if name not in sent and "of one byte" not in name]
-    yield "time to receive a frame, worst with 1,000 holes | {} | {} |", "compare/results/quinn.md", span(received)
-    yield "time to send a frame | {} | {} |", "compare/results/quinn.md", span([*sent.values()])
+    yield "time to receive a frame (worst: 1,000 holes) | {} | {} |", "compare/results/quinn.md", span(received)
+    yield "time to send a frame, by our adapter | {} | {} |", "compare/results/quinn.md", span([*sent.values()])
     clean = next(row for row in cells(peers) if len(row) == 6 and row[0] == "clean")
     yield "sent {} MB/s, and Linux {}", peers, [it.split(";")[0] for it in clean[1:3]]
     ratios = [float(it) for row in cells(peers) if len(row) == 8 for it in re.findall(r"\(([\d.]+)\)", " ".join(row))]
