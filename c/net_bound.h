@@ -10,12 +10,12 @@
  * calls are passed `&receiver` in place of the buffers. docs/C.md has whole programs.
  *
  * A call `net_bound_..` makes the call `net_base_..`, whose comment in net_base.h also says when it
- * is refused. A refused call changes nothing, and returns a value that says so. A *run* is a waiting
- * range, and a struct is *sound* if only these calls wrote it. Times are in microseconds. Each struct
+ * is refused. A refused call changes nothing, and returns a value that says so. A *run* is a range
+ * that waits or has arrived, and a struct is *sound* if only these calls wrote it. Times are in microseconds. Each struct
  * has the *head*, which is its numbers, and a pointer to each buffer with its length. Only `.._init`
- * is passed these, so that you can't break duty 5 of net_base.h. In place of `.._init` you may set
- * the struct to zeros, and then its pointers and lengths. Read fields as you like, but let only
- * these calls write the head.
+ * is passed these, so that duty 5 of net_base.h is kept. In place of `.._init` you may set the
+ * struct to zeros, and then its pointers and lengths. Read fields as you like, but let only these
+ * calls write the head.
  *
  * In place of `NET_BASE_NONE` and `UINT64_MAX` these calls return 0. Where a packet is, they write
  * to `place`, and return false if there is none.

@@ -40,7 +40,7 @@ EXAMPLES = ["net_examples", "net_tests"]
 # Where names are looked for.
 SOURCES = [*(f"{folder}/**/*" for folder in "crates overlay compare rust c tools .ci .github".split()), "*", "docs/*"]
 ELSEWHERE = set("""
-    vTaskNotifyGiveFromISR ulTaskNotifyTake taskENTER_CRITICAL taskENTER_CRITICAL_FROM_ISR
+    vTaskNotifyGiveFromISR ulTaskNotifyTake DCMAKE_TOOLCHAIN_FILE
     MODULE axioms nat __builtin_add_overflow int32_t spsc defmt Format Debug2Format HOLE
     TcpSeqNumber Interface int8_t c.storage-1.given time_t VecInner Cursor ANTT iface send_with yml
 """.split())

@@ -1,6 +1,6 @@
 /* SPDX-License-Identifier: 0BSD
  * A ring of bytes that two sides share without a lock: threads, or an interrupt and what it interrupts. Any program may
- * have a copy. For other elements, or for more writers or readers, docs/C.md has another ring.
+ * have a copy. For other elements, or for more writers or readers, take a ring of net_bound.h, and guard it with a lock.
  *
  * With an RTOS nothing else is needed between one interrupt and one task. To let the task sleep, notify it after the put:
  * in FreeRTOS by vTaskNotifyGiveFromISR, for which the task waits by ulTaskNotifyTake. We haven't tried this. If two

@@ -60,7 +60,7 @@ static bool is_lost(void) {
     return (random_state >> 32) * 100 >> 32 < lost;
 }
 
-/* Sends a segment with bytes of `outgoing`. What the device doesn't take is lost too. */
+/* Sends a segment with bytes of `outgoing`. What the device doesn't take is lost, and no matter. */
 static void put(const struct header *h, struct net_base_segment_parts parts) {
     uint8_t packet[PACKET];
     size_t size = put_packet(packet, h, outgoing + parts.from, parts.count,
@@ -325,7 +325,7 @@ static void exchange(void) {
 }
 
 /* Does what is due now. Returns for how many milliseconds to wait for a packet, or -1: for ever.
- * No acknowledgement is delayed; the deadline of one, half a second, would be kept here. An idle
+ * This program delays no acknowledgement. If yours does, keep its deadline here too. An idle
  * peer is let go too, though TCP doesn't: its reset may be lost, or beyond a full window. */
 static int proceed(int64_t now) {
     int64_t at, gives_up_at = heard_at + WAITS[state];

@@ -106,7 +106,7 @@ def counted():
     seeds = first(r"unwrap_or.([0-9]+)", "rust/tests/model/beside.rs")
     yield "{} runs of random calls", models, [
         f"{kinds * int(seeds):,}"]
-    yield "{} calls answer like", "c/targets/run.py", [f'{int(first(r"^CALLS.*? = ([0-9_]+)", "c/targets/run.py")):,}']
+    yield "{} calls answer as", "c/targets/run.py", [f'{int(first(r"^CALLS.*? = ([0-9_]+)", "c/targets/run.py")):,}']
     seeds, kinds = first(r"SEEDS: u64 = (\d+)", calls), first(r"KINDS: [^=]*; (\d+)\]", calls)
     for text in ("{} random sequences of calls", "{} sequences of [random calls]"):
         yield text, calls, [f"{int(seeds) * int(kinds):,}"]
@@ -123,6 +123,7 @@ def counted():
     yield "[{} functions](std-calls.md)", "docs/std-calls.md", [
         str(sum(len(re.findall(r"`\w+`", names)) for names in re.findall(
             r"^- `\w+`: (.*(?:\n  .*)*)", (ROOT / "docs/std-calls.md").read_text(), re.M)))]
+    yield "which have {} lines", "c/programs", [str(count("\n", "c/programs/tcp.c", "c/programs/headers.h"))]
     yield "declares {}.", rattle, [WORDS[count(r'^\s*(?:unsafe )?extern(?: "\w+")? \{', rattle)]]
     yield "{} `unsafe impl`", rattle, [WORDS[count(r"^\s*unsafe impl\b", rattle)]]
     yield "hand-written proofs of [{} functions]", "crates/*/proofs", [WORDS[len([*ROOT.glob("crates/*/proofs/**/Proof.antt")])]]
