@@ -1,5 +1,5 @@
-//! The tasks of docs/GUIDE.md, docs/QUIC.md and docs/DIFFERENCES.md of the repository, which quote them: `cargo run
-//! --example guide -- TASK`, where TASK is ring, packets, receiver, sender, quic, fragments, interrupt, sizes or faults.
+//! The tasks of docs/GUIDE.md and docs/DIFFERENCES.md of the repository, which quote them: `cargo run --example guide --
+//! TASK`, where TASK is ring, packets, receiver, sender, fragments, interrupt, sizes or faults.
 
 fn ring() {
     use net_base::storage::RingBuffer;
@@ -64,57 +64,6 @@ fn sender() {
     buffer.acknowledge(8..12).expect("it was sent");
     assert!(buffer.lose(0..8));
     println!("again {:?}", buffer.next(u64::MAX, 8));
-}
-
-fn quic() {
-    use net_base::finite::{SendRanges, StreamRanges};
-    use net_base::storage::Run;
-    use std::collections::BTreeMap;
-
-    let written = b"the quick brown fox";
-    let [acked, sent, waiting] = &mut [[Run::EMPTY; 8]; 3]; // room to remember eight ranges in each
-    let mut sending = SendRanges::new(acked, sent);
-    let mut receiving = StreamRanges::new(waiting, 32);
-    let mut chunks = BTreeMap::new(); // the bytes that came, by position
-    let max_stream_data = 32; // what the receiving side announced
-    assert_eq!(sending.write(19), 19);
-    sending.close();
-    let mut packet = 0;
-    while !sending.is_done() {
-        let mut acknowledged = vec![];
-        while let Some(range) = sending.next(max_stream_data, 8) {
-            let fin = sending.has_fin(&range);
-            let (start, end) = (range.start, range.end - u64::from(fin));
-            let data = &written[start as usize..end as usize];
-            assert!(sending.mark(range.clone())); // it is in flight
-            packet += 1;
-            println!("packet {packet}: {range:?} \"{}\" fin {fin}", data.escape_ascii());
-            if packet == 2 {
-                continue; // it is lost
-            }
-            // The receiving side.
-            if end > max_stream_data {
-                return println!("FLOW_CONTROL_ERROR");
-            }
-            if receiving.end().is_some_and(|known| end > known) || fin && !receiving.can_end(end) {
-                return println!("FINAL_SIZE_ERROR");
-            }
-            while let Some(part) =
-                receiving.keep(start..end, fin).expect("eight ranges are enough here")
-            {
-                let new = (part.start - start) as usize..(part.end - start) as usize;
-                chunks.insert(part.start, &data[new]);
-            }
-            acknowledged.push(range); // an ACK frame names the packet
-        }
-        for range in acknowledged {
-            sending.acknowledge(range).expect("it was sent");
-        }
-        sending.lose_all(); // your loss detection: here all that isn't acknowledged
-    }
-    let read = chunks.range(..receiving.next()).map(|chunk| *chunk.1).collect::<Vec<_>>().concat();
-    receiving.read(read.len());
-    println!("read \"{}\", all of it: {}", read.escape_ascii(), receiving.has_read_all());
 }
 
 fn interrupt() {
@@ -191,11 +140,12 @@ fn main() {
         Some("packets") => packets(),
         Some("receiver") => receiver(),
         Some("sender") => sender(),
-        Some("quic") => quic(),
         Some("fragments") => fragments(),
         Some("interrupt") => interrupt(),
         Some("sizes") => sizes(),
         Some("faults") => faults(),
-        _ => println!("guide ring | packets | receiver | sender | quic | fragments | interrupt | sizes | faults"),
+        _ => println!(
+            "guide ring | packets | receiver | sender | fragments | interrupt | sizes | faults"
+        ),
     }
 }
