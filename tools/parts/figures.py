@@ -123,6 +123,9 @@ def counted():
     yield "[{} functions](std-calls.md)", "docs/std-calls.md", [
         str(sum(len(re.findall(r"`\w+`", names)) for names in re.findall(
             r"^- `\w+`: (.*(?:\n  .*)*)", (ROOT / "docs/std-calls.md").read_text(), re.M)))]
+    lwip = "compare/results/sizes.md"
+    yield "{} bytes of code, {} for a connection, and {} for a queued segment", lwip, [
+        f"{int(it):,}" for it in re.search(r"(\d+) bytes of code, (\d+) for a connection, (\d+) for", (ROOT / lwip).read_text()).groups()]
     yield "which have {} lines", "c/programs", [str(count("\n", "c/programs/tcp.c", "c/programs/headers.h"))]
     yield "declares {}.", rattle, [WORDS[count(r'^\s*(?:unsafe )?extern(?: "\w+")? \{', rattle)]]
     yield "{} `unsafe impl`", rattle, [WORDS[count(r"^\s*unsafe impl\b", rattle)]]
