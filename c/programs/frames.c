@@ -128,7 +128,8 @@ static void take_frame(struct device *d, size_t size, int64_t now) {
         position_of(get_number(d->frame + 2, 2), unacknowledged), get_number(d->frame + 4, 2)};
     struct net_base_taken_acknowledgement taken =
         net_bound_sending_end_acknowledged(&d->sending, &announced, NULL, 0, is_empty, now);
-    /* It acknowledges what wasn't sent: the peer has restarted. Yours needs a frame for that. */
+    /* It acknowledges what wasn't sent: the peer may have restarted. Your protocol needs a frame
+     * for that, since an early restart isn't seen here. */
     if (taken.status == NET_BASE_ACKNOWLEDGED_ANSWER) return;
     /* If bytes aren't kept, an acknowledgement is due at once, and the peer sends them again. */
     (void)net_bound_receiving_end_arrived(

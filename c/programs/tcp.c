@@ -237,7 +237,7 @@ static enum net_base_arrival_status take_acknowledgement(const struct header *h,
         return NET_BASE_ARRIVAL_IGNORE;
     }
     if (state == SYN_RECEIVED) state = ESTABLISHED;
-    heard_at = now;
+    if (taken.status != NET_BASE_ACKNOWLEDGED_ANSWER) heard_at = now;
     if (taken.begins)
         shrink(false);
     else

@@ -16,8 +16,8 @@ const SIZE: usize = 500;
 /// How many bytes the receiving side lets be unread, and how many at first.
 const CAPACITY: usize = 8_000;
 const BEGIN: usize = 1_000;
-/// How many ranges may wait there, and be remembered by the sending side. Without a limit a peer's tiny frames, with a
-/// hole before each, take memory as they like (RFC 9000, section 21.7).
+/// The most ranges that the receiving side lets wait, and that the sending side remembers. Without a limit a peer takes
+/// memory by tiny frames with gaps before them (RFC 9000, section 21.7).
 const MOST_RUNS: usize = 1_024;
 /// How many packets may be in flight.
 const WINDOW: usize = 16;
@@ -108,7 +108,7 @@ impl Sender<'_> {
 
     fn on_acknowledged(&mut self, packet: SentPacket) {
         if packet.range.start > self.stream.numbers().first_unacknowledged {
-            self.allow_hole();
+            self.allow_hole(); // it is out of order
         }
         let reply = self.stream.acknowledge(packet.range.clone()).expect("it was sent");
         if reply.sent_again && self.make_room() {
@@ -129,7 +129,7 @@ impl Sender<'_> {
         assert!(self.stream.lose(range), "it was sent");
     }
 
-    /// Makes room for one more hole in what is in flight. Otherwise more is lost than this hole.
+    /// Makes room for one more hole. Otherwise bytes beside it count as lost, and are sent twice.
     fn allow_hole(&mut self) {
         if self.losses >= self.stream.most_runs() {
             self.make_room();

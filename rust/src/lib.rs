@@ -83,8 +83,8 @@
 //! # What is proved
 //!
 //! The source is written in Rattle, which is Rust with a contract for each function: what it returns, what it changes,
-//! and when it refuses. A prover has checked that each body meets its contract for all arguments. Then a script took the
-//! contracts out. A "Source" link opens what is left, and its first line names the file that has the contracts. A *law*
+//! and when it refuses. A prover has checked that each body meets its contract, for all arguments that this allows. Then a
+//! script took the contracts out. A "Source" link opens what is left, and its first line names the file that has the contracts. A *law*
 //! that a page names is a theorem about many calls, which `docs/laws.md` of the repository explains.
 //!
 //! These parts are only tested: `Debug`, conversions from slices, arrays, vectors, boxes and numbers, std's traits such as
@@ -93,8 +93,8 @@
 //!
 //! # Panics
 //!
-//! A call panics only if you break a precondition, which the section "Panics" of its page names, and then in every
-//! build. [`keep`](receiver::ReceiverOver::keep) and most other calls that take data from a packet have none.
+//! A call panics only if you break a precondition, which its page names, and then in every build. Conversions of std's
+//! clocks panic if the moment doesn't fit. [`keep`](receiver::ReceiverOver::keep) and most other calls that take data from a packet have none.
 //! `docs/GUIDE.md` of the repository lists calls that have one and take a number, such as
 //! [`segment`](receiver::ReceiverOver::segment).
 //!

@@ -126,6 +126,9 @@ def counted():
     lwip = "compare/results/sizes.md"
     yield "{} bytes of code, {} for a connection, and {} for a queued segment", lwip, [
         f"{int(it):,}" for it in re.search(r"(\d+) bytes of code, (\d+) for a connection, (\d+) for", (ROOT / lwip).read_text()).groups()]
+    ends, theirs = (int(first(form, path).replace(",", "")) for form, path in (
+        (r"net_bound_sending_end_` \| \d+ \| ([\d,]+) \|", "docs/C.md"), (r"(\d+) bytes of code, ", lwip)))
+    yield "bytes of code in C, ours without headers and states | {} | {} |", lwip, 2 * [f"{ends / theirs:.2f}"]
     yield "which have {} lines", "c/programs", [str(count("\n", "c/programs/tcp.c", "c/programs/headers.h"))]
     yield "declares {}.", rattle, [WORDS[count(r'^\s*(?:unsafe )?extern(?: "\w+")? \{', rattle)]]
     yield "{} `unsafe impl`", rattle, [WORDS[count(r"^\s*unsafe impl\b", rattle)]]
