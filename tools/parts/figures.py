@@ -129,6 +129,9 @@ def counted():
     ends, theirs = (int(first(form, path).replace(",", "")) for form, path in (
         (r"net_bound_sending_end_` \| \d+ \| ([\d,]+) \|", "docs/C.md"), (r"(\d+) bytes of code, ", lwip)))
     yield "bytes of code in C, ours without headers and states | {} | {} |", lwip, 2 * [f"{ends / theirs:.2f}"]
+    bytes_of = lambda it: int(first(rf"^\| `net_{it}` \| \d+ \| (\d+) \|", "docs/C.md"))
+    yield "Both ends take {} bytes, and the limit of answers {}", "docs/C.md", [
+        str(bytes_of("bound_receiving_end") + bytes_of("bound_sending_end")), str(bytes_of("base_answer_limit"))]
     yield "which have {} lines", "c/programs", [str(count("\n", "c/programs/tcp.c", "c/programs/headers.h"))]
     yield "declares {}.", rattle, [WORDS[count(r'^\s*(?:unsafe )?extern(?: "\w+")? \{', rattle)]]
     yield "{} `unsafe impl`", rattle, [WORDS[count(r"^\s*unsafe impl\b", rattle)]]
