@@ -7,8 +7,8 @@
 //! | sending, acknowledged in any order | [`SendBuffer`] | [`SendRanges`] |
 //!
 //! A *position* is the number of a byte in its stream, 64 bits. The *FIN* has the position after the last byte's. A
-//! *waiting range* (a *run*, or *held*, in names) is a range of bytes that waits for those before it, which are a
-//! *hole*. To *refuse* is to return an error and change nothing.
+//! *waiting range* is a range of bytes that waits for those before it, which are a *hole*. Names call it a *run*, or
+//! *held*. To *refuse* is to return an error and change nothing.
 //!
 //! ```
 //! use net_base::finite::{FiniteReceiver, FiniteSender};
@@ -164,8 +164,8 @@ impl<'a> StreamRanges<'a> {
 
 impl<'a> SendRanges<'a> {
     /// Returns the ranges of a stream that begins at position 0, as QUIC's do, to which nothing was written.
-    /// `acknowledged` stores ranges that were acknowledged out of order, `sent` those in flight above the first lost
-    /// byte. Both have room for the same number of ranges.
+    /// `acknowledged` stores ranges that were acknowledged out of order, and `sent` stores ranges in flight above the
+    /// first lost byte. Both have room for the same number of ranges.
     ///
     /// ```
     /// # use net_base::finite::SendRanges;
@@ -188,8 +188,8 @@ impl<'a> SendRanges<'a> {
     }
 
     /// Returns the ranges of a stream that begins at position `first`, to which nothing was written. `acknowledged`
-    /// stores ranges that were acknowledged out of order, `sent` those in flight above the first lost byte. Both have
-    /// room for the same number of ranges.
+    /// stores ranges that were acknowledged out of order, and `sent` stores ranges in flight above the first lost byte.
+    /// Both have room for the same number of ranges.
     ///
     /// ```
     /// # use net_base::finite::SendRanges;
@@ -214,8 +214,8 @@ impl<'a> SendRanges<'a> {
 
 impl<'a> SendBuffer<'a> {
     /// Returns the buffer of a stream that begins at position 0, as QUIC's do, to which nothing was written.
-    /// `acknowledged` stores ranges that were acknowledged out of order, `sent` those in flight above the first lost
-    /// byte. Both have room for the same number of ranges.
+    /// `acknowledged` stores ranges that were acknowledged out of order, and `sent` stores ranges in flight above the
+    /// first lost byte. Both have room for the same number of ranges.
     ///
     /// ```
     /// # use net_base::finite::SendBuffer;
@@ -238,8 +238,8 @@ impl<'a> SendBuffer<'a> {
     }
 
     /// Returns the buffer of a stream that begins at position `first`, to which nothing was written. `acknowledged`
-    /// stores ranges that were acknowledged out of order, `sent` those in flight above the first lost byte. Both have
-    /// room for the same number of ranges.
+    /// stores ranges that were acknowledged out of order, and `sent` stores ranges in flight above the first lost byte.
+    /// Both have room for the same number of ranges.
     ///
     /// ```
     /// # use net_base::finite::SendBuffer;

@@ -1,10 +1,22 @@
 //! The part of a network stack that stores bytes: ring buffers, packet queues, reassembly of segments and of IP
-//! fragments, buffers of what was sent, times and checksums. Each function is [proved](#what-is-proved) to meet its
-//! contract for every input that the contract allows, apart from some parts that are only tested. Nothing here needs a
-//! heap. The crate needs Rust 1.85, and a target of 32 or 64 bits.
+//! fragments, buffers of what was sent, times and checksums. Nothing here needs a heap. Each function is
+//! [proved](#what-is-proved) to meet its contract, for every input that the contract allows, except for a few parts
+//! that are only tested. The crate needs Rust 1.85, and a target of 32 or 64 bits.
 //!
-//! A segment is a position and some bytes. A [`FiniteReceiver`](finite::FiniteReceiver) puts the segments of a stream in
-//! order:
+//! A ring is a queue in storage that you lend to it:
+//!
+//! ```
+//! use net_base::storage::RingBuffer;
+//!
+//! let mut storage = [0u8; 8];
+//! let mut ring = RingBuffer::new(&mut storage[..]);
+//! assert_eq!(ring.enqueue_slice(b"hello, world"), 8); // it takes as many as there is room for
+//! let mut text = [0; 5];
+//! assert_eq!(ring.dequeue_slice(&mut text), 5);
+//! assert_eq!((&text, ring.len()), (b"hello", 3));
+//! ```
+//!
+//! A receiver puts segments in order, each of which is a position and some bytes:
 //!
 //! ```
 //! use net_base::finite::FiniteReceiver;
@@ -20,49 +32,33 @@
 //! # Ok::<(), net_base::finite::FiniteError>(())
 //! ```
 //!
-//! A [`SendRanges`](finite::SendRanges) knows which bytes of a QUIC stream are acknowledged, in flight or lost:
-//!
-//! ```
-//! use net_base::finite::SendRanges;
-//! use net_base::storage::Run;
-//!
-//! // Room to remember eight ranges that are acknowledged out of order, and eight that were sent.
-//! let (mut acked, mut sent) = ([Run::EMPTY; 8], [Run::EMPTY; 8]);
-//! let mut sending = SendRanges::new(&mut acked, &mut sent);
-//! assert_eq!(sending.write(16), 16); // the program keeps the bytes
-//! // The peer takes 16 bytes, and a packet has room for 8.
-//! while let Some(range) = sending.next(16, 8) {
-//!     assert!(sending.mark(range)); // a packet with these bytes is in flight
-//! }
-//! assert!(sending.acknowledge(8..16).is_ok());
-//! assert!(sending.lose(0..8));
-//! assert_eq!(sending.next(16, 8), Some(0..8)); // these bytes are to be sent again
-//! ```
-//!
 //! # Where to begin
 //!
 //! | You want | Type |
 //! |---|---|
-//! | a queue of bytes, or of other elements | [`RingBuffer`](storage::RingBuffer) |
-//! | a queue of packets, each with a header | [`PacketBuffer`](storage::PacketBuffer) |
-//! | bytes from an interrupt | [`SplitRing`](storage::SplitRing) |
-//! | a stream out of segments | [`Receiver`](receiver::Receiver) |
-//! | a stream that ends | [`FiniteReceiver`](finite::FiniteReceiver), [`FiniteSender`](finite::FiniteSender) |
-//! | a stream that is acknowledged in any order | [`SendBuffer`](finite::SendBuffer) |
-//! | both sides of a QUIC stream | [`StreamRanges`](finite::StreamRanges), [`SendRanges`](finite::SendRanges) |
-//! | both ends of a TCP connection | the crate `net-tcp`, which is over this one |
-//! | packets out of IP fragments | [`FragmentBuffer`](storage::FragmentBuffer) |
-//! | what a peer's SACK blocks say | [`Scoreboard`](scoreboard::Scoreboard) |
-//! | sequence numbers that wrap | [`SequenceNumber`](sequence_number::SequenceNumber) |
-//! | checksums, times, random ports | [`checksum`], [`time`], [`rand`] |
-//! | frames from a device | [`Device`](phy::Device) |
+//! | a queue of elements | [`RingBuffer`](storage::RingBuffer) |
+//! | a queue of packets | [`PacketBuffer`](storage::PacketBuffer) |
+//! | an interrupt's bytes | [`SplitRing`](storage::SplitRing) |
+//! | segments in order | [`Receiver`](receiver::Receiver) |
+//! | a stream that ends | [`FiniteReceiver`](finite::FiniteReceiver) |
+//! | to send a stream | [`SendBuffer`](finite::SendBuffer) |
+//! | to send without SACK | [`FiniteSender`](finite::FiniteSender) |
+//! | to receive by QUIC | [`StreamRanges`](finite::StreamRanges) |
+//! | to send by QUIC | [`SendRanges`](finite::SendRanges) |
+//! | the ends of a TCP | crate `net-tcp` |
+//! | sequence numbers | [`Numbering`](sequence_number::Numbering) |
+//! | SACK blocks | [`Scoreboard`](scoreboard::Scoreboard) |
+//! | IP fragments | [`FragmentBuffer`](storage::FragmentBuffer) |
+//! | checksums | [`checksum`] |
+//! | times, random ports | [`time`], [`rand`] |
+//! | frames of a device | [`Device`](phy::Device) |
 //!
-//! The page of each type has an example. The repository also has pages with a program for each task: `docs/GUIDE.md`,
-//! `docs/QUIC.md` and `docs/TCP.md`.
+//! The page of each type has an example. The repository has a program for each task, in `docs/GUIDE.md`, `docs/QUIC.md`
+//! and `docs/TCP.md`, and a library for C, in `docs/C.md`.
 //!
 //! [`storage`] and [`time`] have the names, signatures and behaviour of
-//! [smoltcp](https://github.com/smoltcp-rs/smoltcp) 0.14.0, except where an item says otherwise. So have [`rand`], which
-//! is private there, and of [`phy`] the capabilities, checksums, metadata and loopback device.
+//! [smoltcp](https://github.com/smoltcp-rs/smoltcp) 0.14.0, except where an item says otherwise. The same holds for
+//! [`rand`], and for parts of [`phy`].
 //!
 //! # Storage
 //!
@@ -72,20 +68,18 @@
 //!   also takes the stream's first position.
 //! - `over` and `over_at` take storage of any type, such as an array by value or a type of your own:
 //!   `ReceiverOver::<_, 8>::over([0; 256])`. `Receiver` is short for a [`ReceiverOver`](receiver::ReceiverOver) whose
-//!   storage is lent or owned. Likewise each type has one whose name ends in `Over`.
+//!   storage is lent or owned. Likewise each type has one whose name ends in `Over`, which has its calls.
 //!
 //! `N` is how many ranges may wait. Write it with the type: `Receiver::<8>::new(&mut storage[..])`. A type that you write
-//! without it, as in `let receiver: Receiver = ..`, has N = 4. A receiver whose `N` is 0 doesn't compile.
-//!
-//! `Assembler` and `Scoreboard` have no storage. Their `new()` has room for 4 ranges, and `Assembler::<8>::empty()` for
-//! 8. A type is `Send` and `Sync` if its storage is.
+//! without it, as in `let receiver: Receiver = ..`, has N = 4. A receiver whose `N` is 0 doesn't compile. `Assembler` and
+//! `Scoreboard` have no storage: their `new()` has room for 4 ranges, and `Assembler::<8>::empty()` for 8.
 //!
 //! # What is proved
 //!
 //! The source is written in Rattle, which is Rust with a contract for each function: what it returns, what it changes,
-//! and when it refuses. A prover has checked that each body meets its contract, for all arguments that this allows. Then a
-//! script took the contracts out. A "Source" link opens what is left, and its first line names the file that has the contracts. A *law*
-//! that a page names is a theorem about many calls, which `docs/laws.md` of the repository explains.
+//! and when it refuses. A prover has checked each body, and then a script took the contracts out. A "Source" link opens
+//! what is left, and its first line names the file that has the contracts. A *law* that a page names is a theorem about
+//! many calls. `docs/laws.md` of the repository has them all.
 //!
 //! These parts are only tested: `Debug`, conversions from slices, arrays, vectors, boxes and numbers, std's traits such as
 //! `Deref`, `Hash`, `Sum`, `Read` and `Write`, std's clocks, the traits and devices of [`phy`], and all of a
@@ -94,9 +88,9 @@
 //! # Panics
 //!
 //! A call panics only if you break a precondition, which its page names, and then in every build. Conversions of std's
-//! clocks panic if the moment doesn't fit. [`keep`](receiver::ReceiverOver::keep) and most other calls that take data from a packet have none.
-//! `docs/GUIDE.md` of the repository lists calls that have one and take a number, such as
-//! [`segment`](receiver::ReceiverOver::segment).
+//! clocks panic if the moment doesn't fit. [`keep`](receiver::ReceiverOver::keep) and most other calls that take data
+//! from a packet have no precondition. `docs/GUIDE.md` of the repository lists those calls that have one and take a
+//! number, such as [`segment`](receiver::ReceiverOver::segment).
 //!
 //! # Guarantees
 //!

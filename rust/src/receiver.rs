@@ -1,7 +1,7 @@
 //! One stream of bytes out of segments that arrive in any order: [`Receiver`]. (Not in smoltcp's lowest layer.)
 //!
-//! A *position* is the number of a byte in its stream, 64 bits. A *waiting range* (a *run*, or *held*, in names) is a
-//! range of bytes that waits for those before it, which are a *hole*. To *refuse* is to return an error and change
+//! A *position* is the number of a byte in its stream, 64 bits. A *waiting range* is a range of bytes that waits for
+//! those before it, which are a *hole*. Names call it a *run*, or *held*. To *refuse* is to return an error and change
 //! nothing.
 //!
 //! Not proved, but tested: conversions of storage, and `Debug`.
@@ -79,7 +79,7 @@ mod tests {
     fn debug_text() {
         let mut storage = [0u8; 16];
         let mut receiver = Receiver::<4>::new_at(&mut storage[..], 100);
-        assert!(receiver.segment(100, b"abc").is_ok() && receiver.segment(106, b"gh").is_ok());
+        assert!(receiver.keep(100, b"abc").is_ok() && receiver.keep(106, b"gh").is_ok());
         let text = "Receiver { next: 103, len: 3, window: 13, held: [(106, 108)] }";
         assert_eq!(format!("{receiver:?}"), text);
     }

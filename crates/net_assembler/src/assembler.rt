@@ -37,9 +37,8 @@ pub use turns::Turns;
 /// It serves to reassemble data that arrives in any order: it says up to which position everything
 /// has arrived.
 ///
-/// Positions are counted from 0. A *range* (a *run*, in names) is as long as it can be: ranges that
-/// touch become one. A *hole* is what is missing before a range. Two assemblers are equal if they
-/// have the same positions.
+/// Positions are counted from 0. A *range*, which names call a *run*, is as long as it can be: ranges that touch become
+/// one. A *hole* is what is missing before a range. Two assemblers are equal if they have the same positions.
 ///
 /// ```
 /// use net_base::storage::Assembler;

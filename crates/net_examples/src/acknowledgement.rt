@@ -26,9 +26,7 @@ pub fn acknowledge(
         ReceivesFrom 0 x receiver.new }
 {
     if let Some(pos) = number.position(initial, receiver.next()) {
-        if Receiver::<4>::fits(pos, payload.len()) {
-            let _kept = receiver.segment(pos, payload).is_ok();
-        }
+        let _kept = receiver.keep(pos, payload).is_ok();
     }
     let window = receiver.window().min(65_535) as u16;
     (SequenceNumber::at(initial, receiver.next()), window)

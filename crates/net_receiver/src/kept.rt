@@ -1,8 +1,8 @@
 //! The results of a segment: what was kept, or why a receiver of a stream that ends refuses it.
 use thiserror::Error;
 
-/// How many bytes of a segment were kept, how many became readable, and the first waiting ranges (*runs*, in names):
-/// what `segment` returns.
+/// How many bytes of a segment were kept, how many became readable, and the first ranges that wait: what `segment`
+/// returns.
 ///
 /// ```
 /// use net_base::receiver::{Kept, Receiver};

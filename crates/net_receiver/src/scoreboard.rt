@@ -16,10 +16,10 @@ use std::ops::Range;
 
 /// Which bytes of its stream a sender knows to have arrived, from acknowledgements and their SACK blocks.
 ///
-/// A position is the number of a byte in its stream, 64 bits. At most `N` ranges (*runs*, in names) are stored above
-/// the first position that wasn't reported. What is missing before one is a hole, which `next_hole` returns. Most of it
-/// may only be in flight: what is below `lost_below` is lost. When it is sent again is the caller's choice. No call
-/// allocates. (Not in smoltcp, whose TCP socket sends again from the first unacknowledged position on.)
+/// A position is the number of a byte in its stream, 64 bits. At most `N` ranges are stored above the first position
+/// that wasn't reported. Names call such a range a *run*. What is missing before one is a hole, which `next_hole`
+/// returns. Most of it may only be in flight: what is below `lost_below` is lost. When it is sent again is the caller's
+/// choice. No call allocates. (Not in smoltcp, whose TCP socket sends again from the first unacknowledged position on.)
 ///
 /// ```
 /// use net_base::scoreboard::Scoreboard;

@@ -87,10 +87,10 @@ pub struct NotSent;
 /// `mark`, `acknowledge` and `lose` take ranges of positions in any order. Loss detection, timers, windows and packet
 /// sizes are the connection's. `next` returns what is lost, and then what was never sent. (Not in smoltcp.)
 ///
-/// There are two storages of ranges (*runs*, in names), with room for `most_runs` each. `acknowledged` stores ranges
-/// that were acknowledged out of order, `sent` those in flight above the first lost byte. Where one has no room, some
-/// positions are sent twice, but none is forgotten: each is acknowledged, in flight, or offered again by `next`. With
-/// no room at all, a loss or an acknowledgement out of order loses all that was sent from there on.
+/// There are two storages of ranges, which names call *runs*, with room for `most_runs` each. `acknowledged` stores
+/// ranges that were acknowledged out of order, and `sent` stores ranges in flight above the first lost byte. Where one
+/// has no room, some positions are sent twice, but none is forgotten: each is acknowledged, in flight, or offered again
+/// by `next`. With no room at all, a loss or an acknowledgement out of order loses all that was sent from there on.
 ///
 /// Room for half as many ranges as packets sent from the first unacknowledged byte on is always enough, and mostly less
 /// is. If the storages can grow, make room before the first packet is lost or is acknowledged out of order. Count the
@@ -170,8 +170,8 @@ impl<R: Storage<Run> + Drop> Drop for SendRangesOver<R> {
 
 impl<R: Storage<Run>> SendRangesOver<R> {
     /// Returns the ranges of a stream that begins at position `first`, to which nothing was written. `acknowledged`
-    /// stores ranges that were acknowledged out of order, `sent` those in flight above the first lost byte, so it
-    /// is empty until something is lost. Both have room for the same number of ranges.
+    /// stores ranges that were acknowledged out of order. `sent` stores ranges in flight above the first lost byte, so
+    /// it is empty until something is lost. Both have room for the same number of ranges.
     ///
     /// ```
     /// # use net_base::finite::SendRangesOver;

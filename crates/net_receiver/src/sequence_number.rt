@@ -9,7 +9,7 @@ use std::ops::Add;
 /// one.
 ///
 /// A receiver counts in positions of 64 bits, which do not wrap; `at` and `position` convert between the
-/// two. smoltcp's `SeqNumber` is an `i32` and has no positions.
+/// two. smoltcp's `TcpSeqNumber` is an `i32` and has no positions.
 ///
 /// ```
 /// use net_base::sequence_number::SequenceNumber;
@@ -91,9 +91,7 @@ impl SequenceNumber {
     ///
     /// ```rust
     /// if let Some(pos) = number.position(initial, receiver.next()) {
-    ///     if Receiver::<4>::fits(pos, payload.len()) {
-    ///         let _kept = receiver.segment(pos, payload).is_ok();
-    ///     }
+    ///     let _kept = receiver.keep(pos, payload).is_ok();
     /// }
     /// ```
     ///

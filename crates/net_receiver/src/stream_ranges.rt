@@ -28,8 +28,8 @@ use std::ops::Range;
 ///
 /// It tells which bytes of a stream have arrived, for a program that keeps them itself, as where QUIC's frames share
 /// the memory of their datagram. A position is the number of a byte in its stream, 64 bits. Store the bytes of each
-/// part that `keep` returns. Those below `next`, the first missing position, can be read. Above it are the waiting
-/// ranges (*runs*, or *held*, in names); what is missing before one is a hole. No call allocates. (Not in smoltcp.)
+/// part that `keep` returns. Those below `next`, the first missing position, can be read. Above it are waiting ranges,
+/// which names call *runs* or *held*, and what is missing before one is a hole. No call allocates. (Not in smoltcp.)
 ///
 /// It differs from a `StreamReceiver` in two ways. Bytes that arrive again never replace waiting ones, since each
 /// position comes in one part alone. And a FIN that contradicts what has arrived is refused, even one in order.
@@ -213,8 +213,8 @@ impl<R: Storage<Run>> StreamRangesOver<R> {
     /// Keeps the first new part of a segment, and returns it: `None` if none of the segment is new.
     ///
     /// A position is new if it is in the free window, below the end, and in no part yet. `fin` says that the stream
-    /// ends at the range's end, which may have no new position. A FIN above `window_end` isn't kept, and has to come
-    /// again.
+    /// ends where the range ends, also if no position of the range is new. A FIN above `window_end` isn't kept, and has
+    /// to come again.
     ///
     /// Call it until it returns `None`, since waiting ranges can divide the segment. Only the first of these calls can
     /// return an error. An empty or reversed range has no position.

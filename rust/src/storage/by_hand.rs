@@ -104,7 +104,7 @@ impl<'a, H> PacketBuffer<'a, H> {
 }
 
 impl Run {
-    /// A range (a *run*, in names) that isn't in use. Storage of ranges is made of it.
+    /// A range that isn't in use. Storage of ranges is made of it.
     ///
     /// ```
     /// use net_base::storage::Run;

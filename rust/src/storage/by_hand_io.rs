@@ -74,10 +74,10 @@ impl<S: Storage<u8>> BufRead for RingOver<u8, S> {
 ///
 /// let mut storage = [0; 16];
 /// let mut receiver = Receiver::<4>::new(&mut storage[..]);
-/// assert!(receiver.segment(2, b"cd").is_ok());
+/// assert!(receiver.keep(2, b"cd").is_ok());
 /// let mut into = [0; 4];
 /// assert_eq!(receiver.read_exact(&mut into).unwrap_err().kind(), ErrorKind::WouldBlock);
-/// assert!(receiver.segment(0, b"ab").is_ok());
+/// assert!(receiver.keep(0, b"ab").is_ok());
 /// receiver.read_exact(&mut into).expect("four bytes are queued");
 /// assert_eq!(&into, b"abcd");
 /// ```

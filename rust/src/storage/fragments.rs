@@ -37,8 +37,8 @@ pub enum FragmentError {
 
 /// A [`FragmentBuffer`] over any storage.
 ///
-/// `N` is how many ranges (*runs*, in names) of bytes it has room for, with holes between them.
-/// Where fragments overlap, the last one that came wins:
+/// `N` is how many ranges of bytes it has room for, with holes between them. Names call such a range a *run*. Where
+/// fragments overlap, the last one that came wins:
 ///
 /// ```text
 /// add(0, "abcde")    abcde.....

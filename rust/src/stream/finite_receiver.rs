@@ -22,7 +22,7 @@ use crate::stream::receiver::ReceiverOver;
 /// A position is the number of a byte in its stream, 64 bits. The end is the position after the last byte: QUIC's final
 /// size, and the position of TCP's FIN, which needs no room. Segments may arrive in any order, the last one too.
 /// `receiver` lends the receiver of the bytes, for all that isn't about the end: the queue, the window, and the waiting
-/// ranges (*runs*, or *held*, in names). These don't show a FIN that came early, so its sender sends it again.
+/// ranges. These don't show a FIN that came early, so its sender sends it again.
 ///
 /// ```
 /// use net_base::finite::FiniteReceiverOver;

@@ -4,7 +4,7 @@
 
 use crate::storage::RunIter;
 
-/// An iterator over the waiting ranges (*runs*, or *held*, in names) of a receiver, made by `held`.
+/// An iterator over the waiting ranges of a receiver, made by `held`.
 ///
 /// It yields the positions (start, end) of each range, the end not included, in rising order.
 ///
@@ -69,7 +69,7 @@ pub struct HeldRun {
     pub end: u64,
 }
 
-/// An iterator over at most `K` waiting ranges (*runs*, in names), the newest first, made by `newest_runs`.
+/// An iterator over at most `K` waiting ranges, the newest first, made by `newest_runs`.
 ///
 /// It yields the positions (start, end) of each range, the end not included.
 ///

@@ -23,8 +23,8 @@ use core::ops::Range;
 /// A *position* is the number of a byte in its stream, 64 bits; the first byte has position `first`. `next` is the
 /// first missing position. The bytes below it that weren't read yet are queued: they can be read. The free window is
 /// the positions from `next` on for which there is room, TCP's receive window. Bytes above `next` wait at their places,
-/// in at most `N` *waiting ranges* (*runs*, or *held*, in names), until those before them arrive. What is missing
-/// before a waiting range is a *hole*.
+/// in at most `N` *waiting ranges*, until those before them arrive. Names call a waiting range a *run*, or *held*. What
+/// is missing before one is a *hole*.
 ///
 /// ```text
 /// position  first           next                             window_end
@@ -222,8 +222,8 @@ impl<S: Storage<u8>, const N: usize> ReceiverOver<S, N> {
     /// ranges.
     ///
     /// Waiting bytes at the same positions are overwritten. All bytes that are then contiguous from `next` on join the
-    /// queue. If no byte is in the window, nothing changes. Bytes at `u64::MAX` and above, where no stream has any, are
-    /// left out.
+    /// queue. If no byte is in the window, nothing changes. Bytes at position `u64::MAX` or above are dropped, since no
+    /// stream has any there.
     ///
     /// ```
     /// # use net_base::receiver::Receiver;

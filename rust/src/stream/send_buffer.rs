@@ -26,8 +26,8 @@ pub type SendBuffer<'a> = SendBufferOver<ManagedSlice<'a, u8>, ManagedSlice<'a, 
 
 /// A [`SendBuffer`] over any storages. (Not in smoltcp.)
 ///
-/// It is a [`SendRangesOver`] that also keeps the bytes, in a ring. Its page says what a position is, and how many
-/// ranges (*runs*, in names) are enough.
+/// It is a [`SendRangesOver`] that also keeps the bytes, in a ring. The page of that type says what a position is, and
+/// how many ranges are enough.
 ///
 /// No call allocates.
 ///
@@ -68,8 +68,8 @@ pub struct SendBufferOver<S: Storage<u8>, R: Storage<Run>> {
 
 impl<S: Storage<u8>, R: Storage<Run>> SendBufferOver<S, R> {
     /// Returns the buffer of a stream that begins at position `first`, to which nothing was written. `acknowledged`
-    /// stores ranges that were acknowledged out of order, `sent` those in flight above the first lost byte. Both have
-    /// room for the same number of ranges.
+    /// stores ranges that were acknowledged out of order, and `sent` stores ranges in flight above the first lost byte.
+    /// Both have room for the same number of ranges.
     ///
     /// ```
     /// # use net_base::finite::SendBufferOver;

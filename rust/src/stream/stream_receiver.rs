@@ -15,10 +15,10 @@ use core::mem::replace;
 
 /// A [`StreamReceiver`] over any storages.
 ///
-/// It is a `FiniteReceiver` that can grow: its waiting ranges (*runs*, or *held*, in names) are in storage too, and not
-/// in an array. `grow` and `grow_runs` move bytes and ranges to larger storages as they are needed. A QUIC stream may
-/// have a window of many packets, but mostly all its bytes arrive in order. A position is the number of a byte in its
-/// stream, 64 bits. No call allocates. (Not in smoltcp.)
+/// It is a `FiniteReceiver` that can grow: its waiting ranges, which names call *runs* or *held*, are in storage too,
+/// and not in an array. `grow` and `grow_runs` move bytes and ranges to larger storages as they are needed. A QUIC
+/// stream may have a window of many packets, but mostly all its bytes arrive in order. A position is the number of a
+/// byte in its stream, 64 bits. No call allocates. (Not in smoltcp.)
 #[derive(Clone)]
 pub struct StreamReceiverOver<S: Storage<u8>, R: Storage<Run>> {
     // Invariant: head, bytes and runs are sound, as `FiniteReceiverHead::is_sound` tests.
