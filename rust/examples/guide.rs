@@ -1,5 +1,5 @@
 //! The tasks of docs/GUIDE.md and docs/DIFFERENCES.md of the repository, which quote them: `cargo run --example guide --
-//! TASK`, where TASK is ring, packets, receiver, sender, fragments, interrupt, sizes or faults.
+//! TASK`, where TASK is ring, packets, receiver, numbers, sender, fragments, interrupt, sizes or faults.
 
 fn ring() {
     use net_base::storage::RingBuffer;
@@ -46,6 +46,29 @@ fn receiver() {
     let mut into = [0; 16];
     let count = receiver.read(&mut into);
     println!("read {}, window {}", into[..count].escape_ascii(), receiver.window());
+}
+
+fn numbers() {
+    use net_base::receiver::ReceiverOver;
+    use net_base::sequence_number::{Numbering, SequenceNumber};
+
+    // It owns 4,096 bytes, and at most eight ranges may wait. `over_at` is const, for a static.
+    type Stream = ReceiverOver<[u8; 4_096], 8>;
+
+    // Takes a segment whose first byte has the number `seq`. Returns what to acknowledge.
+    fn on_segment(stream: &mut Stream, numbering: Numbering, seq: u32, data: &[u8]) -> (u32, u16) {
+        let position = numbering.position(SequenceNumber::new(seq), stream.next());
+        if let Err(refused) = stream.keep(position, data) {
+            println!("{refused}"); // nothing changes, and the peer sends it again
+        }
+        let window = stream.window().min(65_535) as u16;
+        (numbering.number(stream.next()).get(), window)
+    }
+
+    let numbering = Numbering { first: SequenceNumber::new(7) }; // of the stream's first byte
+    let mut stream = Stream::over_at([0; 4_096], Numbering::first_position());
+    println!("{:?}", on_segment(&mut stream, numbering, 10, b"def"));
+    println!("{:?}", on_segment(&mut stream, numbering, 7, b"abc"));
 }
 
 fn sender() {
@@ -139,13 +162,14 @@ fn main() {
         Some("ring") => ring(),
         Some("packets") => packets(),
         Some("receiver") => receiver(),
+        Some("numbers") => numbers(),
         Some("sender") => sender(),
         Some("fragments") => fragments(),
         Some("interrupt") => interrupt(),
         Some("sizes") => sizes(),
         Some("faults") => faults(),
         _ => println!(
-            "guide ring | packets | receiver | sender | fragments | interrupt | sizes | faults"
+            "guide ring | packets | receiver | numbers | sender | fragments | interrupt | sizes | faults"
         ),
     }
 }

@@ -11,11 +11,13 @@ use net_base::finite::{FiniteError, SendRanges, StreamRanges};
 use net_base::rand::Rand;
 use net_base::storage::Run;
 
-/// The most bytes of a STREAM frame.
+/// The most bytes of a packet's frames.
 const SIZE: usize = 500;
 /// How many bytes the receiving side lets be unread, and how many at first.
 const CAPACITY: usize = 8_000;
 const BEGIN: usize = 1_000;
+/// How many bytes of all streams the receiving side lets be unread.
+const MAX_DATA: u64 = 6_000;
 /// The most ranges that the receiving side lets wait, and that the sending side remembers. Without a limit a peer takes
 /// memory by tiny frames with gaps before them (RFC 9000, section 21.7).
 const MOST_RUNS: usize = 1_024;
@@ -26,11 +28,17 @@ const OVERTAKING: u64 = 8;
 /// The probe timeout: after how many ticks without an acknowledgement a packet is sent whatever the window says.
 const TIMEOUT: u64 = 50;
 
-/// What a packet has: it is STREAM, or ACK and MAX_STREAM_DATA.
+/// What a packet has: it is STREAM, or ACK, MAX_STREAM_DATA and MAX_DATA.
 #[derive(Clone)]
 enum Packet {
     Stream { number: u64, offset: u64, data: Vec<u8>, fin: bool },
-    Ack { packets: Vec<u64>, max_stream_data: u64 },
+    Ack { packets: Vec<u64>, max_stream_data: u64, max_data: u64 },
+}
+
+/// Returns how many bytes of a STREAM frame come before its data: type, stream ID, offset and length.
+fn header_size(offset: u64) -> usize {
+    let varint = |number: u64| 1 << [6, 14, 30].iter().filter(|&&bits| number >> bits > 0).count();
+    1 + 1 + varint(offset) + varint(SIZE as u64)
 }
 
 /// What is on the way, each with the tick at which it arrives.
@@ -63,6 +71,8 @@ struct Sender<'a> {
     packets: BTreeMap<u64, SentPacket>, // by number
     next_number: u64,
     max_stream_data: u64, // the peer's
+    max_data: u64,        // the peer's
+    charged: u64,         // the new bytes that all streams have sent, which MAX_DATA limits
     losses: usize,        // calls of `lose` since `next` found nothing lost
     timer_began: u64,
 }
@@ -75,15 +85,25 @@ impl Sender<'_> {
 
     /// Sends a packet with a STREAM frame, unless there is nothing to send.
     fn send_packet(&mut self, path: &mut Path, now: u64) -> bool {
-        let next = self.stream.next(self.max_stream_data, SIZE);
-        if next.as_ref().is_none_or(|range| range.start >= self.stream.numbers().sent) {
+        let sent = self.stream.numbers().sent;
+        let limit = self.max_stream_data.min(sent + self.max_data - self.charged);
+        let next = self.stream.next(limit, SIZE);
+        if next.as_ref().is_none_or(|range| range.start >= sent) {
             self.losses = 0; // all that was lost is sent again
         }
-        let Some(range) = next else {
-            return false; // all is in flight or acknowledged, or the limit is reached
+        let Some(mut range) = next else {
+            return false; // all is in flight or acknowledged, or a limit is reached
         };
-        let fin = self.stream.has_fin(&range);
+        let mut fin = self.stream.has_fin(&range);
+        let room = (SIZE - header_size(range.start)) as u64;
+        if range.end - u64::from(fin) > range.start + room {
+            range.end = range.start + room; // the rest, and the FIN, come in a later frame
+            fin = false;
+        }
         let end = range.end - u64::from(fin); // the FIN's position has no byte
+        if range.start >= sent {
+            self.charged += end - range.start; // these bytes are new, and the FIN costs nothing
+        }
         let data = self.data[range.start as usize..end as usize].to_vec();
         let number = self.next_number;
         path.send(now, &Packet::Stream { number, offset: range.start, data, fin });
@@ -108,7 +128,7 @@ impl Sender<'_> {
 
     fn on_acknowledged(&mut self, packet: SentPacket) {
         if packet.range.start > self.stream.numbers().first_unacknowledged {
-            self.allow_hole(); // it is out of order
+            self.allow_hole(); // the range has to be remembered
         }
         let reply = self.stream.acknowledge(packet.range.clone()).expect("it was sent");
         if reply.sent_again && self.make_room() {
@@ -129,7 +149,7 @@ impl Sender<'_> {
         assert!(self.stream.lose(range), "it was sent");
     }
 
-    /// Makes room for one more hole. Otherwise bytes beside it count as lost, and are sent twice.
+    /// Makes room for one more range. Without it other bytes would count as lost, and be sent twice.
     fn allow_hole(&mut self) {
         if self.losses >= self.stream.most_runs() {
             self.make_room();
@@ -149,24 +169,31 @@ impl Sender<'_> {
     /// Sends a probe: what is due if there is anything, or else the oldest bytes again.
     fn probe(&mut self, path: &mut Path, now: u64) {
         self.timer_began = now;
-        if self.send_packet(path, now) {
-            return;
-        }
-        if let Some(oldest) = self.packets.values_mut().find(|packet| !packet.is_probed) {
+        while !self.send_packet(path, now) {
+            // The oldest packet's bytes are offered again, unless they are acknowledged by now.
+            let Some(oldest) = self.packets.values_mut().find(|packet| !packet.is_probed) else {
+                return; // send a PING
+            };
             oldest.is_probed = true;
             let range = oldest.range.clone();
             self.lose(range);
         }
-        self.send_packet(path, now); // if this returns false too, send a PING
     }
 }
 
 /// The side that receives.
 struct Receiver {
     stream: StreamRanges<'static>,
-    chunks: BTreeMap<u64, Vec<u8>>, // bytes that came, by position
+    pieces: BTreeMap<u64, Vec<u8>>, // bytes that came, by position
     announced: u64,                 // the last MAX_STREAM_DATA
     highest: u64,                   // end of any frame so far
+    connection: Connection,
+}
+
+/// What the receiving sides of all streams share.
+struct Connection {
+    received: u64, // the sum of `highest` of all streams
+    max_data: u64, // that was announced
 }
 
 impl Receiver {
@@ -179,12 +206,16 @@ impl Receiver {
         if self.stream.end().is_some_and(|known| end > known) || fin && end < self.highest {
             return Err("FINAL_SIZE_ERROR");
         }
+        self.connection.received += end.saturating_sub(self.highest);
         self.highest = self.highest.max(end);
+        if self.connection.received > self.connection.max_data {
+            return Err("FLOW_CONTROL_ERROR");
+        }
         loop {
             match self.stream.keep(offset..end, fin) {
                 Ok(Some(part)) => {
                     let new = (part.start - offset) as usize..(part.end - offset) as usize;
-                    self.chunks.insert(part.start, data[new].to_vec());
+                    self.store(part.start, &data[new]);
                 }
                 Ok(None) => return Ok(()), // all that is new is stored
                 Err(FiniteError::TooManyHoles) if self.stream.most_runs() < MOST_RUNS => {
@@ -197,12 +228,29 @@ impl Receiver {
         }
     }
 
+    /// Stores bytes at their position. A peer may send tiny frames without gaps, which `keep` doesn't refuse, so many
+    /// pieces become as few as there are ranges.
+    fn store(&mut self, position: u64, bytes: &[u8]) {
+        self.pieces.insert(position, bytes.to_vec());
+        if self.pieces.len() > 2 * MOST_RUNS + 2 {
+            for (start, bytes) in mem::take(&mut self.pieces) {
+                match self.pieces.last_entry() {
+                    Some(mut last) if last.key() + last.get().len() as u64 == start => {
+                        last.get_mut().extend(bytes);
+                    }
+                    _ => _ = self.pieces.insert(start, bytes),
+                }
+            }
+        }
+    }
+
     /// Reads all that has no gap before it.
     fn read(&mut self) -> Vec<u8> {
-        let waiting = self.chunks.split_off(&self.stream.next());
+        let waiting = self.pieces.split_off(&self.stream.next());
         let read =
-            mem::replace(&mut self.chunks, waiting).into_values().collect::<Vec<_>>().concat();
+            mem::replace(&mut self.pieces, waiting).into_values().collect::<Vec<_>>().concat();
         self.stream.read(read.len());
+        self.connection.max_data += read.len() as u64;
         read
     }
 
@@ -220,9 +268,10 @@ fn main() {
     let mut path = Path { random, packets: VecDeque::new() };
     let mut receiver = Receiver {
         stream: StreamRanges::new(vec![], BEGIN),
-        chunks: BTreeMap::new(),
+        pieces: BTreeMap::new(),
         announced: BEGIN as u64,
         highest: 0,
+        connection: Connection { received: 0, max_data: MAX_DATA },
     };
     let mut sender = Sender {
         data: &file,
@@ -230,6 +279,8 @@ fn main() {
         packets: BTreeMap::new(),
         next_number: 0,
         max_stream_data: BEGIN as u64,
+        max_data: MAX_DATA,
+        charged: 0,
         losses: 0,
         timer_began: 0,
     };
@@ -249,10 +300,12 @@ fn main() {
                     stream.grow(2 * stream.capacity());
                 }
                 let (packets, max_stream_data) = (vec![number], receiver.announce());
-                path.send(now, &Packet::Ack { packets, max_stream_data });
+                let max_data = receiver.connection.max_data;
+                path.send(now, &Packet::Ack { packets, max_stream_data, max_data });
             }
-            Some(Packet::Ack { packets, max_stream_data }) => {
+            Some(Packet::Ack { packets, max_stream_data, max_data }) => {
                 sender.max_stream_data = sender.max_stream_data.max(max_stream_data);
+                sender.max_data = sender.max_data.max(max_data);
                 sender.acknowledged(&packets, now);
             }
             None => {}

@@ -13,9 +13,8 @@ from parts import ROOT
 from parts.erase_list import PACKAGES
 
 # What no file counts: what is asked for, and versions.
-FIXED = ["has 64 bits", "hold for 32 bits", "smoltcp 0.14.0", "until 1.0", "Rust 1.87 and Python 3.9", "smoltcp's is 1", "[0BSD]",
-         "1,460 bytes", "quinn-proto 0.11.9", "N = 4", "two segments of 16 bytes",
-         "checksum of 40 bytes", "round trip of 1 ms", "With 10 % lost", "with 5 % delayed", "0.75 of Reno's MB/s"]
+FIXED = ["has 64 bits", "For 32 bits", "smoltcp 0.14.0", "until 1.0", "Rust 1.87 and Python 3.9", "smoltcp's is 1", "[0BSD]",
+         "1,460 bytes", "quinn-proto 0.11.9", "N = 4", "checksum of 40 bytes", "round trip of 1 ms"]
 WORDS = [*"none one two three four five six seven eight nine ten eleven twelve".split(), *map(str, range(13, 100))]
 NUMBER = rf"(\d(?:[\w.,-]*\w)?|(?i:{'|'.join(WORDS)}))"
 
@@ -49,7 +48,8 @@ def measured():
     times, sizes, peers = (f"compare/results/{name}.md" for name in ("times", "sizes", "peers"))
     rows = {row[0]: value(row[1]) for row in cells(times)}
     yield "time of a call | {} | {} |", times, span([it for name, it in rows.items() if not name.startswith("group ")])
-    yield "slowest single call takes {} of", times, [f"{max(rows.values()):.2f}"]
+    for text in ("slowest single call takes {} of", "The {} is beside a loop"):
+        yield text, times, [f"{max(rows.values()):.2f}"]
     # A round of this row has five calls.
     lent = next(row[2].split("/") for row in cells(times) if row[0] == "stream_lent size 1460")
     here, there = (f"{5 * float(count):,.0f}" for count in lent)
@@ -64,15 +64,10 @@ def measured():
     for form, count in [("kept, and read in place", in_place), ("copied out", copied), ("are read in place", two),
                         ("a byte goes through a `SplitRing`", byte)]:
         yield form + " | Cortex-M4 | {} |", sizes, [count]
-    there, here = (next(row for row in cells(sizes) if row[0] == name)[1].split("; ")[1::-1]
-                   for name in ("smoltcp", "net-base's `Receiver`, `keep`"))
-    yield "a `Receiver` takes {} instructions on a Cortex-M4, and {} bytes of code", sizes, here
-    yield "ring and assembler take {} instructions and {} bytes", sizes, there
     yield "bytes of code | {} | {} |", sizes, span([*ratios, *(ratio for row in ours for ratio in row)])
     quinn = cells("compare/results/quinn.md")
-    tests, transfers = (next(row for row in quinn if row[0] == name) for name in ("pass", "256"))
-    yield "passes {} of its {} tests", "compare/results/quinn.md", re.findall(r"\d+", tests[2])
-    yield "In {} of {} transfers", "compare/results/quinn.md", re.findall(r"\d+", transfers[1])
+    tests = next(row[2] for row in quinn if row[0] == "pass")
+    yield "passes {} of its {} tests", "compare/results/quinn.md", re.findall(r"\d+", tests)
     times_of = {row[0]: value(row[3]) for row in quinn if len(row) == 6 and re.fullmatch(r"[\d,]+", row[1])}
     sent = {name: ratio for name, ratio in times_of.items() if " by " in name}
     received = [ratio for name, ratio in times_of.items() if name not in sent and "of one byte" not in name]
@@ -94,7 +89,7 @@ def counted():
     for text in ("has to refuse each of {} [wrong", "also broke [{} functions]"):
         yield text, "crates/must-fail.md", [str(count(r"^\| .* \| `.*` \| `", "crates/must-fail.md"))]
     edits = "crates/*/must-fail/*.edit"
-    yield "Tests catch {} of them", edits, [str(count("^# test: ", edits))]
+    yield "tests catch {} of them", edits, [str(count("^# test: ", edits))]
     model = "rust/examples/plain_model.rs"
     yield "every list of {} calls", model, [WORDS[int(first(r"pow\((\d)\)", model))]]
     ends, reads = first(r"CAPACITY: u64 = (\d+)", model), count(r"Call::Read\(\d", model)
@@ -126,9 +121,6 @@ def counted():
     lwip = "compare/results/sizes.md"
     yield "{} bytes of code, {} for a connection, and {} for a queued segment", lwip, [
         f"{int(it):,}" for it in re.search(r"(\d+) bytes of code, (\d+) for a connection, (\d+) for", (ROOT / lwip).read_text()).groups()]
-    ends, theirs = (int(first(form, path).replace(",", "")) for form, path in (
-        (r"net_bound_sending_end_` \| \d+ \| ([\d,]+) \|", "docs/C.md"), (r"(\d+) bytes of code, ", lwip)))
-    yield "bytes of code in C, ours without headers and states | {} | {} |", lwip, 2 * [f"{ends / theirs:.2f}"]
     bytes_of = lambda it: int(first(rf"^\| `net_{it}` \| \d+ \| (\d+) \|", "docs/C.md"))
     yield "Both ends take {} bytes, and the limit of answers {}", "docs/C.md", [
         str(bytes_of("bound_receiving_end") + bytes_of("bound_sending_end")), str(bytes_of("base_answer_limit"))]
