@@ -48,7 +48,7 @@ def measured():
     times, sizes, peers = (f"compare/results/{name}.md" for name in ("times", "sizes", "peers"))
     rows = {row[0]: value(row[1]) for row in cells(times)}
     yield "time of a call | {} | {} |", times, span([it for name, it in rows.items() if not name.startswith("group ")])
-    for text in ("slowest single call takes {} of", "The {} is beside a loop"):
+    for text in ("slowest single call takes {} of", "the one of the {}, whose loop"):
         yield text, times, [f"{max(rows.values()):.2f}"]
     # A round of this row has five calls.
     lent = next(row[2].split("/") for row in cells(times) if row[0] == "stream_lent size 1460")
