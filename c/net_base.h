@@ -32,8 +32,9 @@
  * Memory
  *
  * - A *head* is a struct of numbers. You keep it beside its memory: a *storage*, which has the
- *   bytes, and for some heads an array of runs or of slots. Its `.._init` makes it; one of zeros is
- *   new too, as the comment of the struct says.
+ *   bytes, and for some heads an array of runs or of slots. Its `.._init` makes it, also of one
+ *   that was used: then all its old state is gone. One of zeros is new too, as the comment of the
+ *   struct says.
  * - A *run* is a range of positions that is stored in one element of such an array. In a receiver
  *   it is a *waiting range*: bytes that have arrived, but wait for earlier ones. It is *held* as
  *   long as they wait.
@@ -66,14 +67,16 @@
  *    together (LTO of both), give these any values too, since Rust wants values behind a reference.
  * 2. What a call may write overlaps nothing else that it is passed.
  * 3. Two calls that share memory aren't made at once, by threads or by an interrupt and what it
- *    interrupts, unless both take it by `const`. So mask the interrupt around each call, and around
- *    what reads fields. Bytes that you copy yourself need no mask, if one side alone writes and one
- *    alone reads: see `struct net_base_ring`.
+ *    interrupts, unless both take it by `const`. So let one task own a head, and make all calls on
+ *    it. If several do, hold a mutex around each call, and around what reads fields. Only if an
+ *    interrupt calls too, mask it there. Bytes that you copy yourself need neither, if one side
+ *    alone writes and one alone reads: see `struct net_base_ring`.
  * 4. There is enough stack for a call.
  * 5. A storage, its runs and its slots have the same lengths in each call on a head.
  * 6. A head, its runs and its slots are written by calls of its own kind alone. For a finite
  *    receiver these are `net_base_finite_receiver_..`, and its `place` isn't written by
- *    `net_base_ring_..`. You may set a head to zeros.
+ *    `net_base_ring_..`. You may set a head to zeros. A call that is stopped midway, as when its
+ *    task is deleted, leaves a head half changed: make it anew by `.._init`.
  * 7. Call a head's `.._init` before its other calls, or set it to zeros. With duties 5 and 6 it
  *    then is *sound*: head and runs are such as calls of its kind leave. A comment that says
  *    `Requires` needs that, and a call whose name ends in `_is_sound` tests it, for a head that
@@ -297,7 +300,8 @@ enum NET_BASE_32_BITS net_base_segment_status {
     /** More ranges would wait than there is room for. Nothing of it is kept: the peer has to send
      * it again. */
     NET_BASE_SEGMENT_TOO_MANY_RUNS = 1,
-    NET_BASE_SEGMENT_OTHER_END = 5, /**< The stream can't end there. Nothing of it is kept. */
+    /** It says that the stream ends where it can't, and isn't in order. Nothing of it is kept. */
+    NET_BASE_SEGMENT_OTHER_END = 5,
     NET_BASE_SEGMENT_REFUSED = 2, /**< What was passed is nonsense. Nothing changes. */
     NET_BASE_WIDEST(SEGMENT)
 };
@@ -338,15 +342,16 @@ enum NET_BASE_32_BITS net_base_acknowledged_status {
 
 /** What the timer's end means: `DONE`, `OVERDUE`, `PROBE`, `LOST` or `REFUSED`. */
 enum NET_BASE_32_BITS net_base_expired_status {
-    /** The timer hasn't ended, or a probe is due and the peer reports nothing, so that it couldn't
-     * answer. */
+    /** The timer hasn't ended, or a loss probe is due that the peer couldn't answer, since it
+     * reports nothing. */
     NET_BASE_EXPIRED_DONE = 0,
     /** No answer has come in time. What is late counts as lost, and
-     * `net_base_sending_end_next_segment` sends it again. If it has none to send, it sends a
-     * probe, which asks for an answer. */
+     * `net_base_sending_end_next_segment` sends it again. If it has none to send, it sends a loss
+     * probe (RFC 8985, 7.3): a segment that asks for an answer. */
     NET_BASE_EXPIRED_OVERDUE = 13,
-    /** The next segment is a probe of a shut window, or, with nothing in flight, has what was held
-     * back. That is no sign of congestion: leave the congestion window as it is. */
+    /** The next segment is a window probe, which asks whether the peer's shut window has opened;
+     * or, with nothing in flight, it has what was held back. That is no sign of congestion: leave
+     * the congestion window as it is. */
     NET_BASE_EXPIRED_PROBE = 11,
     /** All that was sent is lost: let one segment be in flight. `net_base_sending_end_take_back`
      * may undo that, as it does a halving. */
@@ -384,7 +389,7 @@ enum NET_BASE_32_BITS net_base_outgoing_status {
  * `enqueue_slice` writes free elements, and if the queue is empty it moves them to the storage's
  * beginning. So to fill the storage by DMA, ask `unallocated`, start the DMA there, and `enqueue`
  * as many elements once it has ended. Until then call neither `enqueue_slice` nor `init`; all
- * others may be called. No interrupt need be masked while the DMA runs, only around each call. The
+ * others may be called. No lock is needed while the DMA runs: duty 3 is about the calls alone. The
  * same is true of elements that you copy yourself. One writer fills at a time, since `unallocated`
  * finds the same elements until they are enqueued.
  *
@@ -705,9 +710,9 @@ struct net_base_receiver {
  * `runs[k].start` on, and its end likewise. The rest of the storage is free, and waiting ranges
  * are kept in it.
  *
- * An end in order is never refused: that of a last segment which begins at or below the first
- * missing position and ends at or above it. Then what waits beyond it is dropped, and an end that
- * was known is replaced. An end beyond the free window isn't taken. */
+ * An end in order is never refused, as `net_base_finite_receiver_segment` says: what waits beyond
+ * it is dropped, and an end that was known is replaced. An end beyond the free window isn't taken.
+ */
 struct net_base_finite_receiver {
     struct net_base_receiver receiver; /**< The receiver of the bytes. */
     /** The position after the end's, or 0 while the end isn't known. It is acknowledged once all
@@ -741,6 +746,7 @@ NET_BASE_MUST_USE bool net_base_finite_receiver_is_sound(
 
 /** Returns whether the stream can end at `position`: it is the end that is known, or none is, and
  * it isn't below the first missing position or the end of a waiting range. 2^64 - 1 is no end.
+ * `net_base_finite_receiver_segment` takes an end in order even if this is false.
  *
  * It is refused if the first missing position doesn't fit 64 bits, or `held.used` is above
  * `runs_length`: false. Requires: head and runs are sound, as `net_base_finite_receiver_is_sound`
@@ -786,12 +792,16 @@ NET_BASE_MUST_USE bool net_base_finite_receiver_remove(
     NET_BASE_LINK(finite_receiver_remove);
 
 /** Keeps the bytes of a segment, the first at `position`, that are in the free window and below the
- * end, and writes to `counts` how many. If it `is_last`, the stream ends after it. Returns
- * `NET_BASE_SEGMENT_OTHER_END` if it can't end there, or else `NET_BASE_SEGMENT_TOO_MANY_RUNS` if
- * it lacks the next missing byte and would make one waiting range too many; then nothing changes.
- * It is refused if the head isn't one over such storage and runs: `NET_BASE_SEGMENT_REFUSED`, and
- * nothing changes. Requires: head and runs are sound, as `net_base_finite_receiver_is_sound`
- * tests. */
+ * end, and writes to `counts` how many. If it `is_last`, the stream ends after it. While something
+ * is missing, a last segment is *in order* if it begins at or below the first missing position,
+ * and ends at or above that and within the free window. Its end is always taken: it replaces an
+ * end that was known, and drops what waits beyond. For any other last segment this returns
+ * `NET_BASE_SEGMENT_OTHER_END` if the stream can't end there, as
+ * `net_base_finite_receiver_can_end` tells. Else it returns `NET_BASE_SEGMENT_TOO_MANY_RUNS` if
+ * the segment lacks the next missing byte and would make one waiting range too many. After both
+ * nothing has changed. It is refused if the head isn't one over such storage and runs:
+ * `NET_BASE_SEGMENT_REFUSED`, and nothing changes. Requires: head and runs are sound, as
+ * `net_base_finite_receiver_is_sound` tests. */
 NET_BASE_MUST_USE enum net_base_segment_status net_base_finite_receiver_segment(
     struct net_base_finite_receiver *NET_BASE_RESTRICT receiver, uint8_t *NET_BASE_RESTRICT storage,
     size_t storage_length, struct net_base_run *NET_BASE_RESTRICT runs, size_t runs_length,
@@ -960,10 +970,10 @@ NET_BASE_MUST_USE bool net_base_receiving_end_is_due(
     const struct net_base_receiving_end *end) NET_BASE_LINK(receiving_end_is_due);
 
 /** Returns whether an acknowledgement is to be sent within half a second (RFC 9293, 3.8.6.3): a
- * segment waits for one, or an update of the window is worth a segment. `capacity` is how many
- * bytes the storage has. Once all has arrived, no update is wanted. Ask it before you wait. A
- * segment with bytes that you send in the meantime acknowledges too: ask again before you send one
- * without.
+ * segment waits for one, or an update of the window is worth a segment. It is true too while
+ * `net_base_receiving_end_is_due` is. `capacity` is how many bytes the storage has. Once all has
+ * arrived, no update is wanted. Ask it before you wait. A segment with bytes that you send in the
+ * meantime acknowledges too: ask again before you send one without.
  *
  * It is refused if `end` isn't one over `capacity` bytes: false. Requires: the head is sound with
  * the storage, as `net_base_receiving_end_is_sound` tests. */
@@ -1149,7 +1159,7 @@ struct net_base_timeout_bounds {
     uint64_t most; /**< The greatest, unless `least` is above it. 0 counts as 60 seconds (2.5). */
     uint64_t tick; /**< The time between two ticks of the clock; 0 if it counts each microsecond. */
     /** The longest time for which the peer delays the acknowledgement of one segment: 200,000 for
-     * TCP. */
+     * TCP. A loss probe waits for that, so it has no effect without SACK. */
     uint64_t ack_delay;
 };
 
@@ -1237,7 +1247,8 @@ NET_BASE_MUST_USE bool net_base_sending_end_is_sound(
     const struct net_base_sending_end *end, size_t capacity) NET_BASE_LINK(sending_end_is_sound);
 
 /** Begins with a peer, whose SYN announced a window, how many bytes a segment may have, and whether
- * it reports blocks (SACK). Without SACK no probe is sent, as the peer couldn't answer it.
+ * it reports blocks (SACK). Without SACK there is no early loss probe, as the peer couldn't answer
+ * it: a lost last segment is sent again when the timer ends. Window probes are sent all the same.
  * `announcement.seq` is the SYN's position, and `announcement.ack` your first position, even if
  * the SYN has no ACK. `segment_size` counts bytes of the stream alone: pass the peer's MSS less
  * the options that each of your segments has (RFC 6691). What was written stays. Call it once,
@@ -1307,9 +1318,9 @@ NET_BASE_MUST_USE bool net_base_sending_end_take_back(
     struct net_base_sending_end *end, size_t capacity) NET_BASE_LINK(sending_end_take_back);
 
 /** Returns the segment that is to be sent now, and counts it as sent: if the peer's window and the
- * congestion window have room for one, or as a probe. `congestion_window` is how many bytes may be
- * in flight, but one segment may be, however small it is. Less than a whole segment may be held
- * back (RFC 9293, 3.8.6.2.1, and Nagle's rule).
+ * congestion window have room for one, or as a window probe or a loss probe. `congestion_window`
+ * is how many bytes may be in flight, but one segment may be, however small it is. Less than a
+ * whole segment may be held back (RFC 9293, 3.8.6.2.1, and Nagle's rule).
  *
  * It is refused if `end` isn't sound over `capacity` bytes: `position` and `end` are 0, `is_again`
  * is false, the status is `NET_BASE_OUTGOING_REFUSED`, and nothing changes. */

@@ -10,12 +10,13 @@
  * calls are passed `&receiver` in place of the buffers. docs/C.md has whole programs.
  *
  * A call `net_bound_..` makes the call `net_base_..`, whose comment in net_base.h also says when it
- * is refused. A refused call changes nothing, and returns a value that says so. A *run* is a range
- * that waits or has arrived, and a struct is *sound* if only these calls wrote it. Times are in microseconds. Each struct
- * has the *head*, which is its numbers, and a pointer to each buffer with its length. Only `.._init`
- * is passed these, so that duty 5 of net_base.h is kept. In place of `.._init` you may set the
- * struct to zeros, and then its pointers and lengths. Read fields as you like, but let only these
- * calls write the head.
+ * is refused. A refused call changes nothing, and returns a value that says so. That header also
+ * explains words such as *run* and *sound*. Times are in microseconds.
+ *
+ * Each struct has the *head*, which is its numbers, and a pointer to each buffer with its length.
+ * Only `.._init` is passed these, so that duty 5 of net_base.h is kept. Call it again to begin
+ * anew: all old state is gone. In place of it you may set the struct to zeros, and then its pointers
+ * and lengths. Read fields as you like, but let only these calls write the head.
  *
  * In place of `NET_BASE_NONE` and `UINT64_MAX` these calls return 0. Where a packet is, they write
  * to `place`, and return false if there is none.
@@ -235,7 +236,8 @@ NET_BASE_MUST_USE static inline bool net_bound_finite_receiver_is_sound(
         NET_BOUND_RUNS(receiver));
 }
 /** Returns whether the stream can end at `position`: it is the end that is known, or none is, and
- * it isn't below the first missing position or the end of a waiting range. 2^64 - 1 is no end. */
+ * it isn't below the first missing position or the end of a waiting range. 2^64 - 1 is no end.
+ * `net_bound_finite_receiver_segment` takes an end in order even if this is false. */
 NET_BASE_MUST_USE static inline bool net_bound_finite_receiver_can_end(
     const struct net_bound_finite_receiver *receiver, uint64_t position) {
     return net_base_finite_receiver_can_end(NET_BOUND_HEAD(receiver), NET_BOUND_RUNS(receiver),
@@ -268,10 +270,14 @@ NET_BASE_MUST_USE static inline bool net_bound_finite_receiver_remove(
         count);
 }
 /** Keeps the bytes of a segment, the first at `position`, that are in the free window and below the
- * end, and writes to `counts` how many. If it `is_last`, the stream ends after it. Returns
- * `NET_BASE_SEGMENT_OTHER_END` if it can't end there, or else `NET_BASE_SEGMENT_TOO_MANY_RUNS` if
- * it lacks the next missing byte and would make one waiting range too many; then nothing changes.
- */
+ * end, and writes to `counts` how many. If it `is_last`, the stream ends after it. While something
+ * is missing, a last segment is *in order* if it begins at or below the first missing position,
+ * and ends at or above that and within the free window. Its end is always taken: it replaces an
+ * end that was known, and drops what waits beyond. For any other last segment this returns
+ * `NET_BASE_SEGMENT_OTHER_END` if the stream can't end there, as
+ * `net_bound_finite_receiver_can_end` tells. Else it returns `NET_BASE_SEGMENT_TOO_MANY_RUNS` if
+ * the segment lacks the next missing byte and would make one waiting range too many. After both
+ * nothing has changed. */
 NET_BASE_MUST_USE static inline enum net_base_segment_status net_bound_finite_receiver_segment(
     struct net_bound_finite_receiver *receiver, uint64_t position, const uint8_t *bytes,
     size_t bytes_length, bool is_last, struct net_base_kept_counts *counts) {
@@ -346,9 +352,10 @@ NET_BASE_MUST_USE static inline bool net_bound_receiving_end_is_due(
     return net_base_receiving_end_is_due(NET_BOUND_HEAD(end));
 }
 /** Returns whether an acknowledgement is to be sent within half a second (RFC 9293, 3.8.6.3): a
- * segment waits for one, or an update of the window is worth a segment. Once all has arrived, no
- * update is wanted. Ask it before you wait. A segment with bytes that you send in the meantime
- * acknowledges too: ask again before you send one without. */
+ * segment waits for one, or an update of the window is worth a segment. It is true too while
+ * `net_bound_receiving_end_is_due` is. Once all has arrived, no update is wanted. Ask it before
+ * you wait. A segment with bytes that you send in the meantime acknowledges too: ask again before
+ * you send one without. */
 NET_BASE_MUST_USE static inline bool net_bound_receiving_end_is_wanted(
     const struct net_bound_receiving_end *end) {
     return net_base_receiving_end_is_wanted(NET_BOUND_HEAD(end), NET_BOUND_CAPACITY(end));
@@ -401,7 +408,8 @@ NET_BASE_MUST_USE static inline bool net_bound_sending_end_is_sound(
     return net_base_sending_end_is_sound(NET_BOUND_HEAD(end), NET_BOUND_CAPACITY(end));
 }
 /** Begins with a peer, whose SYN announced a window, how many bytes a segment may have, and whether
- * it reports blocks (SACK). Without SACK no probe is sent, as the peer couldn't answer it.
+ * it reports blocks (SACK). Without SACK there is no early loss probe, as the peer couldn't answer
+ * it: a lost last segment is sent again when the timer ends. Window probes are sent all the same.
  * `announcement.seq` is the SYN's position, and `announcement.ack` your first position, even if
  * the SYN has no ACK. `segment_size` counts bytes of the stream alone: pass the peer's MSS less
  * the options that each of your segments has (RFC 6691). What was written stays. Call it once,
@@ -460,9 +468,9 @@ NET_BASE_MUST_USE static inline bool net_bound_sending_end_take_back(
     return net_base_sending_end_take_back(NET_BOUND_HEAD(end), NET_BOUND_CAPACITY(end));
 }
 /** Returns the segment that is to be sent now, and counts it as sent: if the peer's window and the
- * congestion window have room for one, or as a probe. `congestion_window` is how many bytes may be
- * in flight, but one segment may be, however small it is. Less than a whole segment may be held
- * back (RFC 9293, 3.8.6.2.1, and Nagle's rule). */
+ * congestion window have room for one, or as a window probe or a loss probe. `congestion_window`
+ * is how many bytes may be in flight, but one segment may be, however small it is. Less than a
+ * whole segment may be held back (RFC 9293, 3.8.6.2.1, and Nagle's rule). */
 NET_BASE_MUST_USE static inline struct net_base_outgoing_segment net_bound_sending_end_next_segment(
     struct net_bound_sending_end *end, uint64_t congestion_window, int64_t now) {
     return net_base_sending_end_next_segment(NET_BOUND_HEAD(end), NET_BOUND_CAPACITY(end),

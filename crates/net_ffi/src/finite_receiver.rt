@@ -24,10 +24,13 @@ pub(crate) fn has_number(receiver: &FiniteReceiverHead) -> bool
 }
 
 /// Keeps the bytes of a segment, the first at `position`, that are in the free window and below the end, and writes to
-/// `counts` how many. If it `is_last`, the stream ends after it. Returns `NET_BASE_OTHER_END` if it can't end there, or
-/// else `NET_BASE_TOO_MANY_RUNS` if it lacks the next missing byte and would make one waiting range too many; then
-/// nothing changes. It is refused if the head isn't one over such storage and runs: `NET_BASE_REFUSED`, and nothing
-/// changes.
+/// `counts` how many. If it `is_last`, the stream ends after it. While something is missing, a last segment is *in
+/// order* if it begins at or below the first missing position, and ends at or above that and within the free window.
+/// Its end is always taken: it replaces an end that was known, and drops what waits beyond. For any other last segment
+/// this returns `NET_BASE_OTHER_END` if the stream can't end there, as `net_base_finite_receiver_can_end` tells. Else it
+/// returns `NET_BASE_TOO_MANY_RUNS` if the segment lacks the next missing byte and would make one waiting range too
+/// many. After both nothing has changed. It is refused if the head isn't one over such storage and runs:
+/// `NET_BASE_REFUSED`, and nothing changes.
 ///
 /// # Requires
 ///

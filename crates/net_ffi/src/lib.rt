@@ -4,8 +4,8 @@
 //! # Memory
 //!
 //! - A *head* is a struct of numbers. You keep it beside its memory: a *storage*, which has the bytes, and for some
-//!   heads an array of runs or of slots. Its `.._init` makes it; one of zeros is new too, as the comment of the struct
-//!   says.
+//!   heads an array of runs or of slots. Its `.._init` makes it, also of one that was used: then all its old state is
+//!   gone. One of zeros is new too, as the comment of the struct says.
 //! - A *run* is a range of positions that is stored in one element of such an array. In a receiver it is a *waiting
 //!   range*: bytes that have arrived, but wait for earlier ones. It is *held* as long as they wait.
 //! - A *position* is the number of a byte in a stream, with 64 bits, so that it never wraps. The end of a stream has one
@@ -34,12 +34,14 @@
 //!    give these any values too, since Rust wants values behind a reference.
 //! 2. What a call may write overlaps nothing else that it is passed.
 //! 3. Two calls that share memory aren't made at once, by threads or by an interrupt and what it interrupts, unless
-//!    both take it by `const`. So mask the interrupt around each call, and around what reads fields. Bytes that you
-//!    copy yourself need no mask, if one side alone writes and one alone reads: see `RingHead`.
+//!    both take it by `const`. So let one task own a head, and make all calls on it. If several do, hold a mutex around
+//!    each call, and around what reads fields. Only if an interrupt calls too, mask it there. Bytes that you copy
+//!    yourself need neither, if one side alone writes and one alone reads: see `RingHead`.
 //! 4. There is enough stack for a call.
 //! 5. A storage, its runs and its slots have the same lengths in each call on a head.
 //! 6. A head, its runs and its slots are written by calls of its own kind alone. For a finite receiver these are
 //!    `net_base_finite_receiver_..`, and its `place` isn't written by `net_base_ring_..`. You may set a head to zeros.
+//!    A call that is stopped midway, as when its task is deleted, leaves a head half changed: make it anew by `.._init`.
 //! 7. Call a head's `.._init` before its other calls, or set it to zeros. With duties 5 and 6 it then is *sound*: head
 //!    and runs are such as calls of its kind leave. A comment that says `Requires` needs that, and a call whose name
 //!    ends in `_is_sound` tests it, for a head that anything else may have written.

@@ -469,9 +469,9 @@ pub extern "C" fn net_base_receiving_end_is_due(end: &ReceivingEnd) -> bool
 }
 
 /// Returns whether an acknowledgement is to be sent within half a second (RFC 9293, 3.8.6.3): a segment waits for one,
-/// or an update of the window is worth a segment. `capacity` is how many bytes the storage has. Once all has arrived,
-/// no update is wanted. Ask it before you wait. A segment with bytes that you send in the meantime acknowledges too:
-/// ask again before you send one without.
+/// or an update of the window is worth a segment. It is true too while `net_base_receiving_end_is_due` is. `capacity` is
+/// how many bytes the storage has. Once all has arrived, no update is wanted. Ask it before you wait. A segment with
+/// bytes that you send in the meantime acknowledges too: ask again before you send one without.
 ///
 /// It is refused if `end` isn't one over `capacity` bytes: false.
 ///

@@ -18,7 +18,7 @@ pub type SizeStatus = u32;
 ///
 /// - `TOO_MANY_RUNS`: more ranges would wait than there is room for. Nothing of it is kept: the peer has to send it
 ///   again.
-/// - `OTHER_END`: the stream can't end there. Nothing of it is kept.
+/// - `OTHER_END`: it says that the stream ends where it can't, and isn't in order. Nothing of it is kept.
 pub type SegmentStatus = u32;
 
 /// What to do with a segment that arrives: `TAKE`, `ACKNOWLEDGEMENT_ONLY`, `ANSWER`, `IGNORE`, `RESET`; `REFUSED` for
@@ -33,9 +33,9 @@ pub type AcknowledgedStatus = u32;
 
 /// What the timer's end means: `DONE`, `OVERDUE`, `PROBE`, `LOST` or `REFUSED`.
 ///
-/// - `DONE`: the timer hasn't ended, or a probe is due and the peer reports nothing, so that it couldn't answer.
-/// - `PROBE`: the next segment is a probe of a shut window, or, with nothing in flight, has what was held back. That is
-///   no sign of congestion: leave the congestion window as it is.
+/// - `DONE`: the timer hasn't ended, or a loss probe is due that the peer couldn't answer, since it reports nothing.
+/// - `PROBE`: the next segment is a window probe, which asks whether the peer's shut window has opened; or, with nothing
+///   in flight, it has what was held back. That is no sign of congestion: leave the congestion window as it is.
 pub type ExpiredStatus = u32;
 
 /// Whether a segment is to be sent: `DONE`, `NOTHING` or `REFUSED`.
@@ -59,7 +59,7 @@ pub const NET_BASE_TOO_LONG: Status = 3;
 /// fragment reaches past a known size. Nothing changes.
 pub const NET_BASE_OTHER_SIZE: Status = 4;
 
-/// The stream can't end there. Nothing changes.
+/// The segment says that the stream ends where it can't, and isn't in order. Nothing changes.
 pub const NET_BASE_OTHER_END: Status = 5;
 
 /// Take what a segment acknowledges, its window, its bytes and its end.
@@ -81,11 +81,11 @@ pub const NET_BASE_IGNORE: Status = 9;
 /// The peer has reset the connection.
 pub const NET_BASE_RESET: Status = 10;
 
-/// The next segment is a probe of a shut window, or, with nothing in flight, has what was held back.
+/// The next segment is a window probe, or, with nothing in flight, has what was held back.
 pub const NET_BASE_PROBE: Status = 11;
 
 /// No answer has come in time. What is late counts as lost, and `net_base_sending_end_next_segment` sends it again. If
-/// it has none to send, it sends a probe, which asks for an answer.
+/// it has none to send, it sends a loss probe (RFC 8985, 7.3): a segment that asks for an answer.
 pub const NET_BASE_OVERDUE: Status = 13;
 
 /// All that was sent is lost: let one segment be in flight. `net_base_sending_end_take_back` may undo that, as it does

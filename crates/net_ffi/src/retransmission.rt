@@ -21,7 +21,8 @@ pub struct TimeoutBounds {
     pub most: u64,
     /// The time between two ticks of the clock; 0 if it counts each microsecond.
     pub tick: u64,
-    /// The longest time for which the peer delays the acknowledgement of one segment: 200,000 for TCP.
+    /// The longest time for which the peer delays the acknowledgement of one segment: 200,000 for TCP. A loss probe
+    /// waits for that, so it has no effect without SACK.
     pub ack_delay: u64,
 }
 

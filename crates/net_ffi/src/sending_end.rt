@@ -434,10 +434,11 @@ pub extern "C" fn net_base_sending_end_is_sound(end: &SendingEnd, capacity: usiz
 }
 
 /// Begins with a peer, whose SYN announced a window, how many bytes a segment may have, and whether it reports blocks
-/// (SACK). Without SACK no probe is sent, as the peer couldn't answer it. `announcement.seq` is the SYN's position, and
-/// `announcement.ack` your first position, even if the SYN has no ACK. `segment_size` counts bytes of the stream alone:
-/// pass the peer's MSS less the options that each of your segments has (RFC 6691). What was written stays. Call it
-/// once, before anything is sent. A second call begins with another peer.
+/// (SACK). Without SACK there is no early loss probe, as the peer couldn't answer it: a lost last segment is sent again
+/// when the timer ends. Window probes are sent all the same. `announcement.seq` is the SYN's position,
+/// and `announcement.ack` your first position, even if the SYN has no ACK. `segment_size` counts bytes of the stream
+/// alone: pass the peer's MSS less the options that each of your segments has (RFC 6691). What was written stays. Call
+/// it once, before anything is sent. A second call begins with another peer.
 ///
 /// It is refused if `end` isn't sound over `capacity` bytes: false, and nothing changes.
 #[unsafe(no_mangle)]
@@ -651,8 +652,9 @@ pub extern "C" fn net_base_sending_end_take_back(end: &mut SendingEnd, capacity:
 }
 
 /// Returns the segment that is to be sent now, and counts it as sent: if the peer's window and the congestion window
-/// have room for one, or as a probe. `congestion_window` is how many bytes may be in flight, but one segment may be,
-/// however small it is. Less than a whole segment may be held back (RFC 9293, 3.8.6.2.1, and Nagle's rule).
+/// have room for one, or as a window probe or a loss probe. `congestion_window` is how many bytes may be in flight, but
+/// one segment may be, however small it is. Less than a whole segment may be held back (RFC 9293, 3.8.6.2.1, and
+/// Nagle's rule).
 ///
 /// It is refused if `end` isn't sound over `capacity` bytes: `position` and `end` are 0, `is_again` is false, the
 /// status is `NET_BASE_REFUSED`, and nothing changes.

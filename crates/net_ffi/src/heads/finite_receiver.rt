@@ -14,9 +14,8 @@
 //! `runs[k].start` on, and its end likewise. The rest of the storage is free, and waiting ranges
 //! are kept in it.
 //!
-//! An end in order is never refused: that of a last segment which begins at or below the first
-//! missing position and ends at or above it. Then what waits beyond it is dropped, and an end that
-//! was known is replaced. An end beyond the free window isn't taken.
+//! An end in order is never refused, as `net_base_finite_receiver_segment` says: what waits beyond it
+//! is dropped, and an end that was known is replaced. An end beyond the free window isn't taken.
 ghost use Rattle.net_assembler.specs.RunLists.{IsCanonical};
 ghost use Rattle.net_ffi.specs.ReceiverParts.{HasRuns, IsReadable};
 ghost use Rattle.net_ffi.specs.Refusals.{no_number};
@@ -77,6 +76,7 @@ pub extern "C" fn net_base_finite_receiver_is_sound(
 
 /// Returns whether the stream can end at `position`: it is the end that is known, or none is, and
 /// it isn't below the first missing position or the end of a waiting range. 2^64 - 1 is no end.
+/// `net_base_finite_receiver_segment` takes an end in order even if this is false.
 ///
 /// It is refused if the first missing position doesn't fit 64 bits, or `held.used` is above
 /// `runs.len()`: false.

@@ -8,7 +8,7 @@
 //! `enqueue_slice` writes free elements, and if the queue is empty it moves them to the storage's
 //! beginning. So to fill the storage by DMA, ask `unallocated`, start the DMA there, and `enqueue`
 //! as many elements once it has ended. Until then call neither `enqueue_slice` nor `init`; all
-//! others may be called. No interrupt need be masked while the DMA runs, only around each call. The
+//! others may be called. No lock is needed while the DMA runs: duty 3 is about the calls alone. The
 //! same is true of elements that you copy yourself. One writer fills at a time, since `unallocated`
 //! finds the same elements until they are enqueued.
 //!
