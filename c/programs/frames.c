@@ -1,5 +1,6 @@
 /* Streams of bytes both ways between two devices over a noisy UART, in frames of one's own, in
- * simulated time: `frames [SEED]`. The line flips bits, and loses and inserts bytes.
+ * simulated time. The line flips bits, and loses and inserts bytes. In the last run a device stops
+ * reading for a second.
  *
  * It leaves out of TCP
  * - the SYN: both devices know the first position and the window;
@@ -7,11 +8,19 @@
  * - SACK;
  * - a congestion window: nobody else uses the line;
  * - TIME-WAIT: a device that is done still acknowledges.
+ *
+ * In FreeRTOS a task owns a device and calls turn() for ever. It waits by ulTaskNotifyTake, up to
+ * what net_bound_sending_end_expires_at writes. Each interrupt of the UART ends by
+ * vTaskNotifyGiveFromISR and portYIELD_FROM_ISR: the receiver's after it put bytes, the
+ * transmitter's after it took some, since then there is room. The transmitter's disables itself
+ * when its ring is empty. After a turn the task enables it, between taskENTER_CRITICAL and
+ * taskEXIT_CRITICAL if both write the same register. `now` is 64 bits: add to it 1000 times
+ * `(uint32_t)(xTaskGetTickCount() - last)` each turn, if a tick is a millisecond, and set `.tick`
+ * to 1000. We haven't tried this.
  */
 #include "byte_ring.h"
 #include "net_bound.h"
 #include <stdio.h>
-#include <stdlib.h>
 #include <string.h>
 
 /* A frame: 16 bits each of the position, of what it acknowledges, and of the window; whether it
@@ -25,7 +34,8 @@ _Static_assert(LONGEST + SHORTEST <= BYTE_RING_SIZE, "the ring has room for a fr
 
 /* Where both streams begin: not below 32768, so that also a number before it has a position. */
 static const uint64_t FIRST = 65536;
-/* At 115,200 baud it takes 55 ms until three frames after a lost one are acknowledged. */
+/* At 115,200 baud it takes 55 ms until three frames after a lost one are acknowledged. So `least`
+ * must exceed that, by as much as the two tasks may be late. */
 static const struct net_base_timeout_bounds BOUNDS = {.least = 100000, .most = 200000};
 static uint8_t text[BYTES]; /* Both devices send it. */
 
@@ -37,7 +47,8 @@ struct device {
     struct net_bound_receiving_end receiving;
     uint8_t outgoing[ROOM], incoming[ROOM], got[BYTES];
     size_t written, read;
-    unsigned frames, damaged;
+    unsigned frames, again, probes, acknowledgements, damaged;
+    bool rests; /* It doesn't read. */
 };
 
 /* CRC-32, since one of 16 bits lets 1 of 65,536 pass. Inverted, so that it sees a zero after it. */
@@ -87,7 +98,6 @@ static void put_frame(struct device *d, uint64_t position, uint64_t acknowledged
         byte_ring_put(&d->to_send, escapes ? frame[i] ^ FLIPS : frame[i]);
     }
     byte_ring_put(&d->to_send, FLAG);
-    d->frames++;
 }
 
 /* Takes bytes from the ring up to the end of a frame. Returns its size without CRC, or 0. */
@@ -113,9 +123,11 @@ static size_t find_frame(struct device *d) {
 /* Sends a frame without bytes. If there is no room for it, it stays due, or wanted. */
 static void acknowledge(struct device *d) {
     struct net_base_acknowledgement told;
-    if (room(d) >= SHORTEST && net_bound_receiving_end_acknowledgement(&d->receiving, &told))
-        put_frame(d, net_bound_sending_end_empty_segment_position(&d->sending), told.next,
-            told.window, (struct net_base_segment_parts){0, 0, 0, 0, false});
+    if (room(d) < SHORTEST) return;
+    if (!net_bound_receiving_end_acknowledgement(&d->receiving, &told)) return;
+    put_frame(d, net_bound_sending_end_empty_segment_position(&d->sending), told.next, told.window,
+        (struct net_base_segment_parts){0, 0, 0, 0, false});
+    d->acknowledgements++;
 }
 
 /* Takes a frame that was found: what it acknowledges, its window, its bytes and its end. */
@@ -144,13 +156,16 @@ static void send_frames(struct device *d, int64_t now) {
     uint64_t next;
     uint16_t window;
     struct net_base_outgoing_segment it;
-    if (net_bound_sending_end_expired(&d->sending, now).status == NET_BASE_EXPIRED_REFUSED) return;
+    d->probes += net_bound_sending_end_expired(&d->sending, now).status == NET_BASE_EXPIRED_PROBE;
     while (room(d) >= LONGEST + SHORTEST
            && (it = net_bound_sending_end_next_segment(&d->sending, UINT64_MAX, now)).status
                   == NET_BASE_OUTGOING_DONE
-           && net_bound_receiving_end_announce(&d->receiving, &next, &window))
+           && net_bound_receiving_end_announce(&d->receiving, &next, &window)) {
         put_frame(d, it.position, next, window,
             net_bound_sending_end_bytes(&d->sending, it.position, it.end));
+        d->frames++;
+        d->again += it.is_again;
+    }
     if (net_bound_receiving_end_is_wanted(&d->receiving)) acknowledge(d);
 }
 
@@ -158,19 +173,25 @@ static void send_frames(struct device *d, int64_t now) {
 static void turn(struct device *d, int64_t now) {
     size_t size;
     while ((size = find_frame(d)) > 0) take_frame(d, size, now);
-    d->read += net_bound_receiving_end_read(&d->receiving, d->got + d->read, BYTES - d->read);
+    if (!d->rests)
+        d->read += net_bound_receiving_end_read(&d->receiving, d->got + d->read, BYTES - d->read);
     d->written += net_bound_sending_end_write(&d->sending, text + d->written, BYTES - d->written);
     if (d->written == BYTES) net_bound_sending_end_close(&d->sending);
     send_frames(d, now);
 }
 
+/* Makes a device anew, also a used one. By Nagle's rule a request or a reply might wait. */
 static bool begin(struct device *d) {
     struct net_base_announcement announced = {FIRST - 1, FIRST, ROOM};
-    uint16_t window; /* ROOM, as the peer knows. */
-    return net_bound_receiving_end_init(&d->receiving, d->incoming, ROOM, FIRST, SEGMENT)
-           && net_bound_receiving_end_open(&d->receiving, FIRST, 0, &window)
-           && net_bound_sending_end_init(&d->sending, d->outgoing, ROOM, FIRST, 200000, &BOUNDS)
-           && net_bound_sending_end_open(&d->sending, &announced, SEGMENT, false, 0);
+    uint16_t window;         /* ROOM, as the peer knows. */
+    memset(d, 0, sizeof *d); /* Rings of zeros are empty. */
+    if (!net_bound_receiving_end_init(&d->receiving, d->incoming, ROOM, FIRST, SEGMENT)
+        || !net_bound_receiving_end_open(&d->receiving, FIRST, 0, &window)
+        || !net_bound_sending_end_init(&d->sending, d->outgoing, ROOM, FIRST, 200000, &BOUNDS)
+        || !net_bound_sending_end_open(&d->sending, &announced, SEGMENT, false, 0))
+        return false;
+    net_bound_sending_end_set_nagle_enabled(&d->sending, false);
+    return true;
 }
 
 static bool is_done(const struct device *d) {
@@ -194,20 +215,33 @@ static void carry(struct device *from, struct device *to) {
     byte_ring_put(&to->received, byte);
 }
 
-int main(int count, char **words) {
-    static struct device a, b; /* Rings of zeros are empty. */
-    random_state = count > 1 ? strtoull(words[1], NULL, 10) : 0;
+/* Carries the text both ways, and returns whether it came. */
+static bool run(unsigned seed, bool rests) {
+    static struct device a, b;
+    int64_t now = 0;
+    random_state = seed;
     for (size_t i = 0; i < BYTES; i++) text[i] = (uint8_t)below(256);
-    if (!begin(&a) || !begin(&b)) return 1;
-    for (int64_t i = 0; i < 1000000 && !(is_done(&a) && is_done(&b)); i++) {
+    if (!begin(&a) || !begin(&b)) return false;
+    for (unsigned i = 0; i < 1000000 && !(is_done(&a) && is_done(&b)); i++, now += BYTE_TIME) {
         carry(&a, &b);
         carry(&b, &a);
-        if (i % 8 == 0) turn(&a, i * BYTE_TIME);
-        if (i % 8 == 4) turn(&b, i * BYTE_TIME);
+        b.rests = rests && now >= 1000000 && now < 2000000;
+        if (i % 8 == 0) turn(&a, now);
+        if (i % 8 == 4) turn(&b, now);
     }
     bool is_same = a.read == BYTES && b.read == BYTES && memcmp(a.got, text, BYTES) == 0
                    && memcmp(b.got, text, BYTES) == 0 && is_done(&a) && is_done(&b);
-    printf("frames: %d bytes each way, %u frames, %u damaged: %s\n", BYTES, a.frames + b.frames,
-        a.damaged + b.damaged, is_same ? "same" : "not the same");
+    printf("seed %u%s: %u frames (%u again, %u probes), %u acknowledgements, ", seed,
+        rests ? " and a rest" : "", a.frames + b.frames, a.again + b.again, a.probes + b.probes,
+        a.acknowledgements + b.acknowledgements);
+    printf("%u damaged, %u ms: %s\n", a.damaged + b.damaged, (unsigned)(now / 1000),
+        is_same ? "same" : "not the same");
+    return is_same;
+}
+
+int main(void) {
+    printf("frames: %d bytes each way\n", BYTES);
+    bool is_same = true;
+    for (unsigned seed = 0; seed < 4; seed++) is_same &= run(seed, seed == 3);
     return !is_same;
 }

@@ -447,7 +447,7 @@ def figures_of_parts(programs):
         found[key] = {"RAM": kept.format(**ram), "Code": f"{int(code):,}", "Instructions": f"{rounds[name]:,}"}
     source = programs.folder / "byte_ring_size.c"
     source.write_text(BYTE_RING)
-    found["copy `byte_ring.h`"] = {"RAM": str(ram["byte_ring"] - 256),
+    found["copy `byte_ring.h`"] = {"RAM": f'{ram["byte_ring"] - 256}, and 256 for its bytes',
                                    "Code": str(code_size(programs.way, programs.compiled(source, ["-Os"]))),
                                    "Instructions": str(rounds["byte_ring.h: a byte in and out"])}
     for name, (most, average) in longest(programs).items():
