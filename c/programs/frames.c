@@ -140,8 +140,7 @@ static void take_frame(struct device *d, size_t size, int64_t now) {
         position_of(get_number(d->frame + 2, 2), unacknowledged), get_number(d->frame + 4, 2)};
     struct net_base_taken_acknowledgement taken =
         net_bound_sending_end_acknowledged(&d->sending, &announced, NULL, 0, is_empty, now);
-    /* It acknowledges what wasn't sent: the peer may have restarted. Your protocol needs a frame
-     * for that, since an early restart isn't seen here. */
+    /* It acknowledges what wasn't sent: the peer may have restarted. */
     if (taken.status == NET_BASE_ACKNOWLEDGED_ANSWER) return;
     /* If bytes aren't kept, an acknowledgement is due at once, and the peer sends them again. */
     (void)net_bound_receiving_end_arrived(
@@ -242,6 +241,6 @@ static bool run(unsigned seed, bool rests) {
 int main(void) {
     printf("frames: %d bytes each way\n", BYTES);
     bool is_same = true;
-    for (unsigned seed = 0; seed < 4; seed++) is_same &= run(seed, seed == 3);
+    for (unsigned seed = 0; seed < 3; seed++) is_same &= run(seed, seed == 2);
     return !is_same;
 }
