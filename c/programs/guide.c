@@ -1,4 +1,4 @@
-/* The tasks of docs/C.md, which quotes them. */
+/* The tasks of docs/C.md: a stream, a queue of bytes, and a queue of packets. */
 #include "net_bound.h"
 #include <stdio.h>
 #include <string.h>
