@@ -41,11 +41,11 @@ static inline size_t net_bound_or_0(size_t number) {
 }
 /** @endcond */
 
-/** `struct net_base_ring`, and where its memory is. */
+/** `struct net_base_ring`, and each array that `.._init` was passed, with its length. */
 struct net_bound_ring {
     struct net_base_ring head; /**< Its numbers, which only calls write. */
-    uint8_t *storage; /**< The array that `.._init` was passed. */
-    size_t capacity; /**< How many elements that has. */
+    uint8_t *storage;
+    size_t capacity;
 };
 /** Makes `ring` an empty ring, for a storage of any length. */
 static inline void net_bound_ring_init(
@@ -97,13 +97,13 @@ NET_BASE_MUST_USE static inline size_t net_bound_ring_dequeue_slice(
         into, into_length));
 }
 
-/** `struct net_base_packets`, and where its memory is. */
+/** `struct net_base_packets`, and each array that `.._init` was passed, with its length. */
 struct net_bound_packets {
     struct net_base_packets head; /**< Its numbers, which only calls write. */
-    uint8_t *storage; /**< The array that `.._init` was passed. */
-    size_t capacity; /**< How many elements that has. */
-    struct net_base_packet_slot *slots; /**< The array that `.._init` was passed. */
-    size_t slots_length; /**< How many elements that has. */
+    uint8_t *storage;
+    size_t capacity;
+    struct net_base_packet_slot *slots;
+    size_t slots_length;
 };
 /** Makes `packets` a queue with no packets. */
 static inline void net_bound_packets_init(
@@ -154,13 +154,13 @@ NET_BASE_MUST_USE static inline bool net_bound_packets_peek(
     return true;
 }
 
-/** `struct net_base_fragments`, and where its memory is. */
+/** `struct net_base_fragments`, and each array that `.._init` was passed, with its length. */
 struct net_bound_fragments {
     struct net_base_fragments head; /**< Its numbers, which only calls write. */
-    uint8_t *storage; /**< The array that `.._init` was passed. */
-    size_t capacity; /**< How many elements that has. */
-    struct net_base_run *runs; /**< The array that `.._init` was passed. */
-    size_t runs_length; /**< How many elements that has. */
+    uint8_t *storage;
+    size_t capacity;
+    struct net_base_run *runs;
+    size_t runs_length;
 };
 /** Makes `fragments` an empty buffer, whose packet is waited for up to `expires_at`, in
  * microseconds. Storage and runs may have any values. */
@@ -211,13 +211,13 @@ NET_BASE_MUST_USE static inline bool net_bound_fragments_complete(
         NET_BOUND_RUNS(fragments), size);
 }
 
-/** `struct net_base_finite_receiver`, and where its memory is. */
+/** `struct net_base_finite_receiver`, and each array that `.._init` was passed, with its length. */
 struct net_bound_finite_receiver {
     struct net_base_finite_receiver head; /**< Its numbers, which only calls write. */
-    uint8_t *storage; /**< The array that `.._init` was passed. */
-    size_t capacity; /**< How many elements that has. */
-    struct net_base_run *runs; /**< The array that `.._init` was passed. */
-    size_t runs_length; /**< How many elements that has. */
+    uint8_t *storage;
+    size_t capacity;
+    struct net_base_run *runs;
+    size_t runs_length;
 };
 /** Makes `receiver` a receiver of a stream that begins at position `first`; nothing has arrived.
  * Storage and runs may have any values. */
@@ -293,11 +293,11 @@ NET_BASE_MUST_USE static inline bool net_bound_finite_receiver_window_end(
         NET_BOUND_CAPACITY(receiver), end);
 }
 
-/** `struct net_base_receiving_end`, and where its memory is. */
+/** `struct net_base_receiving_end`, and each array that `.._init` was passed, with its length. */
 struct net_bound_receiving_end {
     struct net_base_receiving_end head; /**< Its numbers, which only calls write. */
-    uint8_t *storage; /**< The array that `.._init` was passed. */
-    size_t capacity; /**< How many elements that has. */
+    uint8_t *storage;
+    size_t capacity;
 };
 /** Makes `end` the receiving side of a connection, whose stream begins at position `first`, at
  * which nothing has arrived. The peer's segments have at most `segment_size` bytes, which is the
@@ -384,11 +384,11 @@ NET_BASE_MUST_USE static inline size_t net_bound_receiving_end_read(
         into, into_length));
 }
 
-/** `struct net_base_sending_end`, and where its memory is. */
+/** `struct net_base_sending_end`, and each array that `.._init` was passed, with its length. */
 struct net_bound_sending_end {
     struct net_base_sending_end head; /**< Its numbers, which only calls write. */
-    uint8_t *storage; /**< The array that `.._init` was passed. */
-    size_t capacity; /**< How many elements that has. */
+    uint8_t *storage;
+    size_t capacity;
 };
 /** Makes `end` the sending side of a connection, whose stream begins at position `first`, and to
  * which nothing was written. `first_timeout` is the timeout, in microseconds, before any round

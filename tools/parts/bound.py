@@ -133,11 +133,11 @@ def text(library):
     """The header."""
     lines = []
     for name, each in calls(library).items():
-        lines += ["", f"/** `struct net_base_{name}`, and where its memory is. */", f"struct net_bound_{name} {{",
+        lines += ["", f"/** `struct net_base_{name}`, and each array that `.._init` was passed, with its length. */",
+                  f"struct net_bound_{name} {{",
                   f"    struct net_base_{name} head; /**< Its numbers, which only calls write. */"]
         for field, length in each[0].memory:
-            lines += [f"    {MEMORY[field][0]} *{field}; /**< The array that `.._init` was passed. */",
-                      f"    size_t {length}; /**< How many elements that has. */"]
+            lines += [f"    {MEMORY[field][0]} *{field};", f"    size_t {length};"]
         lines += ["};", *[line for call in each for line in call.text()]]
     return ffi.filled_in(TEMPLATE, CALLS=lines)
 
