@@ -1,22 +1,24 @@
 /* Streams of bytes both ways between two devices over a noisy UART, in frames of one's own, in
- * simulated time. The line flips bits, and loses and inserts bytes. In the last run a device stops
- * reading for a second.
+ * simulated time. The line flips bits, and loses and inserts bytes. In the third run a device stops
+ * reading for a second, and in the last one it restarts.
  *
  * It leaves out of TCP
- * - the SYN: both devices know the first position and the window;
+ * - the SYN: both devices know the first position and the window, and a frame has epochs;
  * - net_bound_receiving_end_classify: no stranger sends, and the ends test each number;
  * - SACK;
  * - a congestion window: nobody else uses the line;
  * - TIME-WAIT: a device that is done still acknowledges.
  *
- * In FreeRTOS a task owns a device and calls turn() for ever. It waits by ulTaskNotifyTake, up to
- * what net_bound_sending_end_expires_at writes. Each interrupt of the UART ends by
- * vTaskNotifyGiveFromISR and portYIELD_FROM_ISR: the receiver's after it put bytes, the
- * transmitter's after it took some, since then there is room. The transmitter's disables itself
- * when its ring is empty. After a turn the task enables it, between taskENTER_CRITICAL and
- * taskEXIT_CRITICAL if both write the same register. `now` is 64 bits: add to it 1000 times
- * `(uint32_t)(xTaskGetTickCount() - last)` each turn, if a tick is a millisecond, and set `.tick`
- * to 1000. We haven't tried this.
+ * A task owns a device, and the interrupts of its UART touch the two rings alone. To FreeRTOS,
+ * which we haven't tried, this is
+ * - `wakes = true`: vTaskNotifyGiveFromISR, and portYIELD_FROM_ISR at the end of the interrupt; in
+ *   another task xTaskNotifyGive;
+ * - a task that sleeps: ulTaskNotifyTake, for the ticks, rounded up, until the moment of
+ *   net_bound_sending_end_expires_at, or for ever if that returns false;
+ * - `transmits`: the bit that enables the interrupt. If both write its register, write it between
+ *   taskENTER_CRITICAL and taskEXIT_CRITICAL;
+ * - `now`: 64 bits. If a tick is a millisecond, add 1000 times the ticks since the last turn,
+ *   `(uint32_t)(xTaskGetTickCount() - last)`, and set `.tick` of the bounds to 1000.
  */
 #include "byte_ring.h"
 #include "net_bound.h"
@@ -24,9 +26,10 @@
 #include <string.h>
 
 /* A frame: 16 bits each of the position, of what it acknowledges, and of the window; whether it
- * ends the stream; bytes; a CRC. FLAG is before and after it, ESCAPE before a byte that is flipped.
+ * ends the stream; the epochs of both devices; bytes; a CRC. FLAG is before and after it, ESCAPE
+ * before a byte that is flipped.
  */
-enum { FLAG = 0x7e, ESCAPE = 0x7d, FLIPS = 0x20, HEADER = 7, SEGMENT = 64, CHECK = 4 };
+enum { FLAG = 0x7e, ESCAPE = 0x7d, FLIPS = 0x20, HEADER = 9, SEGMENT = 64, CHECK = 4 };
 enum { FRAME = HEADER + SEGMENT + CHECK, ROOM = 1024, BYTES = 20000, BYTE_TIME = 87 };
 /* The most bytes of a frame without a segment's bytes, and of one with them: each is escaped. */
 enum { SHORTEST = 2 + 2 * (HEADER + CHECK), LONGEST = 2 + 2 * FRAME };
@@ -34,8 +37,8 @@ _Static_assert(LONGEST + SHORTEST <= BYTE_RING_SIZE, "the ring has room for a fr
 
 /* Where both streams begin: not below 32768, so that also a number before it has a position. */
 static const uint64_t FIRST = 65536;
-/* At 115,200 baud it takes 55 ms until three frames after a lost one are acknowledged. So `least`
- * must exceed that, by as much as the two tasks may be late. */
+/* `least` has to be more than the time until three frames after a lost one are acknowledged, which
+ * at 115,200 baud is 55 ms, and by as much as the two tasks may be late. */
 static const struct net_base_timeout_bounds BOUNDS = {.least = 100000, .most = 200000};
 static uint8_t text[BYTES]; /* Both devices send it. */
 
@@ -47,8 +50,11 @@ struct device {
     struct net_bound_receiving_end receiving;
     uint8_t outgoing[ROOM], incoming[ROOM], got[BYTES];
     size_t written, read;
+    uint8_t epoch, peer; /* This device's, another at each start and never 0; the peer's, or 0. */
+    bool wakes;          /* The task has to run. */
+    bool transmits;      /* The interrupt when a byte can be sent is enabled. */
+    bool rests;          /* The task doesn't read. */
     unsigned frames, again, probes, acknowledgements, damaged;
-    bool rests; /* It doesn't read. */
 };
 
 /* CRC-32, since one of 16 bits lets 1 of 65,536 pass. Inverted, so that it sees a zero after it. */
@@ -88,6 +94,8 @@ static void put_frame(struct device *d, uint64_t position, uint64_t acknowledged
     put_number(frame + 2, 2, acknowledged);
     put_number(frame + 4, 2, window);
     frame[6] = parts.is_last;
+    frame[7] = d->epoch;
+    frame[8] = d->peer;
     memcpy(frame + HEADER, d->outgoing + parts.from, parts.count);
     memcpy(frame + HEADER + parts.count, d->outgoing + parts.rest_from, parts.rest_count);
     put_number(frame + size, CHECK, crc(frame, size));
@@ -130,8 +138,32 @@ static void acknowledge(struct device *d) {
     d->acknowledgements++;
 }
 
+/* Begins both streams, at a start, and when the peer has started. By Nagle's rule a request or a
+ * reply might wait. What is in the rings stays: it has an older epoch. */
+static bool begin(struct device *d, uint8_t peer, int64_t now) {
+    struct net_base_announcement announced = {FIRST - 1, FIRST, ROOM};
+    uint16_t window; /* ROOM, as the peer knows. */
+    d->peer = peer;
+    d->written = d->read = 0;
+    d->wakes = true;
+    if (!net_bound_receiving_end_init(&d->receiving, d->incoming, ROOM, FIRST, SEGMENT)
+        || !net_bound_receiving_end_open(&d->receiving, FIRST, 0, &window)
+        || !net_bound_sending_end_init(&d->sending, d->outgoing, ROOM, FIRST, 200000, &BOUNDS)
+        || !net_bound_sending_end_open(&d->sending, &announced, SEGMENT, false, now))
+        return false;
+    net_bound_sending_end_set_nagle_enabled(&d->sending, false);
+    return true;
+}
+
 /* Takes a frame that was found: what it acknowledges, its window, its bytes and its end. */
 static void take_frame(struct device *d, size_t size, int64_t now) {
+    /* The peer has started, and knows nothing of what came before. */
+    if (d->frame[7] != d->peer && !begin(d, d->frame[7], now)) return;
+    /* The peer doesn't know this start yet: it learns of it by any frame. */
+    if (d->frame[8] != d->epoch) {
+        acknowledge(d);
+        return;
+    }
     uint64_t next, unacknowledged = net_bound_sending_end_first_unacknowledged(&d->sending);
     struct net_base_kept_counts counts;
     bool is_last = d->frame[6] != 0, is_empty = size == HEADER && !is_last;
@@ -140,8 +172,8 @@ static void take_frame(struct device *d, size_t size, int64_t now) {
         position_of(get_number(d->frame + 2, 2), unacknowledged), get_number(d->frame + 4, 2)};
     struct net_base_taken_acknowledgement taken =
         net_bound_sending_end_acknowledged(&d->sending, &announced, NULL, 0, is_empty, now);
-    /* It acknowledges what wasn't sent: the peer may have restarted. */
-    if (taken.status == NET_BASE_ACKNOWLEDGED_ANSWER) return;
+    if (taken.status == NET_BASE_ACKNOWLEDGED_ANSWER)
+        return; /* It acknowledges what wasn't sent. */
     /* If bytes aren't kept, an acknowledgement is due at once, and the peer sends them again. */
     (void)net_bound_receiving_end_arrived(
         &d->receiving, announced.seq, d->frame + HEADER, size - HEADER, is_last, &counts);
@@ -168,29 +200,34 @@ static void send_frames(struct device *d, int64_t now) {
     if (net_bound_receiving_end_is_wanted(&d->receiving)) acknowledge(d);
 }
 
-/* A turn of the main loop: at an interrupt, and when net_bound_sending_end_expires_at says. */
-static void turn(struct device *d, int64_t now) {
+/* The interrupt of a byte that came. It wakes the task at a frame's end, or for want of room. */
+static void on_received(struct device *d, uint8_t byte) {
+    bool is_full = !byte_ring_put(&d->received, byte);
+    if (is_full || byte == FLAG) d->wakes = true;
+}
+
+/* The interrupt when a byte can be sent. If there is none, it ends, and the task may send more. */
+static bool on_transmit(struct device *d, uint8_t *byte) {
+    if (byte_ring_take(&d->to_send, byte)) return true;
+    d->transmits = false;
+    d->wakes = true;
+    return false;
+}
+
+/* The task: it sleeps until it is woken, or until the timer of the sending end. */
+static void run_task(struct device *d, int64_t now) {
     size_t size;
+    int64_t at;
+    bool is_due = net_bound_sending_end_expires_at(&d->sending, &at) && at <= now;
+    if (!d->wakes && !is_due) return;
+    d->wakes = false;
     while ((size = find_frame(d)) > 0) take_frame(d, size, now);
     if (!d->rests)
         d->read += net_bound_receiving_end_read(&d->receiving, d->got + d->read, BYTES - d->read);
     d->written += net_bound_sending_end_write(&d->sending, text + d->written, BYTES - d->written);
     if (d->written == BYTES) net_bound_sending_end_close(&d->sending);
     send_frames(d, now);
-}
-
-/* Makes a device anew, also a used one. By Nagle's rule a request or a reply might wait. */
-static bool begin(struct device *d) {
-    struct net_base_announcement announced = {FIRST - 1, FIRST, ROOM};
-    uint16_t window;         /* ROOM, as the peer knows. */
-    memset(d, 0, sizeof *d); /* Rings of zeros are empty. */
-    if (!net_bound_receiving_end_init(&d->receiving, d->incoming, ROOM, FIRST, SEGMENT)
-        || !net_bound_receiving_end_open(&d->receiving, FIRST, 0, &window)
-        || !net_bound_sending_end_init(&d->sending, d->outgoing, ROOM, FIRST, 200000, &BOUNDS)
-        || !net_bound_sending_end_open(&d->sending, &announced, SEGMENT, false, 0))
-        return false;
-    net_bound_sending_end_set_nagle_enabled(&d->sending, false);
-    return true;
+    if (d->to_send.in != d->to_send.out) d->transmits = true;
 }
 
 static bool is_done(const struct device *d) {
@@ -208,30 +245,42 @@ static unsigned below(unsigned bound) {
 /* The line takes a byte to the other device, but for those that it loses, and inserts some. */
 static void carry(struct device *from, struct device *to) {
     uint8_t byte;
-    if (below(8000) == 0) byte_ring_put(&to->received, (uint8_t)below(256));
-    if (!byte_ring_take(&from->to_send, &byte) || below(8000) == 0) return;
+    if (below(8000) == 0) on_received(to, (uint8_t)below(256));
+    if (!from->transmits || !on_transmit(from, &byte) || below(8000) == 0) return;
     if (below(4000) == 0) byte ^= (uint8_t)(1U << below(8));
-    byte_ring_put(&to->received, byte);
+    on_received(to, byte);
+}
+
+/* Starts a device, whose rings are empty, with another epoch than before. */
+static bool start(struct device *d, uint8_t epoch, int64_t now) {
+    memset(d, 0, sizeof *d);
+    d->epoch = epoch;
+    return begin(d, 0, now);
 }
 
 /* Carries the text both ways, and returns whether it came. */
-static bool run(unsigned seed, bool rests) {
+static bool run(unsigned seed, bool rests, bool restarts) {
     static struct device a, b;
     int64_t now = 0;
     random_state = seed;
     for (size_t i = 0; i < BYTES; i++) text[i] = (uint8_t)below(256);
-    if (!begin(&a) || !begin(&b)) return false;
+    if (!start(&a, 1, 0) || !start(&b, 1, 0)) return false;
     for (unsigned i = 0; i < 1000000 && !(is_done(&a) && is_done(&b)); i++, now += BYTE_TIME) {
         carry(&a, &b);
         carry(&b, &a);
-        b.rests = rests && now >= 1000000 && now < 2000000;
-        if (i % 8 == 0) turn(&a, now);
-        if (i % 8 == 4) turn(&b, now);
+        if (restarts && i == 10000 && !start(&b, 2, now)) return false;
+        b.rests = rests && i > 10000 && i <= 20000;
+        if (rests && i == 20001) b.wakes = true; /* Whoever reads again wakes the task. */
+        if (i % 8 == 0) run_task(&a, now);
+        if (i % 8 == 4) run_task(&b, now);
     }
     bool is_same = a.read == BYTES && b.read == BYTES && memcmp(a.got, text, BYTES) == 0
                    && memcmp(b.got, text, BYTES) == 0 && is_done(&a) && is_done(&b);
     printf("seed %u%s: %u frames (%u again, %u probes), %u acknowledgements, ", seed,
-        rests ? " and a rest" : "", a.frames + b.frames, a.again + b.again, a.probes + b.probes,
+        rests      ? ", a rest"
+        : restarts ? ", a restart"
+                   : "",
+        a.frames + b.frames, a.again + b.again, a.probes + b.probes,
         a.acknowledgements + b.acknowledgements);
     printf("%u damaged, %u ms: %s\n", a.damaged + b.damaged, (unsigned)(now / 1000),
         is_same ? "same" : "not the same");
@@ -241,6 +290,6 @@ static bool run(unsigned seed, bool rests) {
 int main(void) {
     printf("frames: %d bytes each way\n", BYTES);
     bool is_same = true;
-    for (unsigned seed = 0; seed < 3; seed++) is_same &= run(seed, seed == 2);
+    for (unsigned seed = 0; seed < 4; seed++) is_same &= run(seed, seed == 2, seed == 3);
     return !is_same;
 }

@@ -1,5 +1,5 @@
-//! A plain model of a `SendRanges`, and every list of five calls on both: they reply the same. This needs no prover, which
-//! has shown the same of every list. The repository's docs/QUIC.md quotes the model.
+//! A plain model of a `SendRanges` that has room for all ranges, and every list of five calls on both: they reply the
+//! same. This needs no prover, which has shown the same of every list.
 use net_base::finite::SendRanges;
 use net_base::storage::Run;
 use std::ops::Range;

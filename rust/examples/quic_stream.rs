@@ -11,15 +11,15 @@ use net_base::finite::{FiniteError, SendRanges, StreamRanges};
 use net_base::rand::Rand;
 use net_base::storage::Run;
 
-/// The most bytes of a packet's frames.
+/// The most bytes of a packet's frame, its header too.
 const SIZE: usize = 500;
 /// How many bytes the receiving side lets be unread, and how many at first.
 const CAPACITY: usize = 8_000;
 const BEGIN: usize = 1_000;
 /// How many bytes of all streams the receiving side lets be unread.
 const MAX_DATA: u64 = 6_000;
-/// The most ranges that the receiving side lets wait, and that the sending side remembers. Without a limit a peer takes
-/// memory by tiny frames with gaps before them (RFC 9000, section 21.7).
+/// The most ranges that the receiving side lets wait, and that the sending side remembers. Half as many as frames fit
+/// in a window are enough. Without a limit a peer takes memory by tiny frames with gaps (RFC 9000, section 21.7).
 const MOST_RUNS: usize = 1_024;
 /// How many packets may be in flight.
 const WINDOW: usize = 16;
@@ -73,7 +73,7 @@ struct Sender<'a> {
     max_stream_data: u64, // the peer's
     max_data: u64,        // the peer's
     charged: u64,         // the new bytes that all streams have sent, which MAX_DATA limits
-    losses: usize,        // calls of `lose` since `next` found nothing lost
+    losses: usize,        // calls of `lose` since `next` offered nothing lost
     timer_began: u64,
 }
 
@@ -95,10 +95,13 @@ impl Sender<'_> {
             return false; // all is in flight or acknowledged, or a limit is reached
         };
         let mut fin = self.stream.has_fin(&range);
-        let room = (SIZE - header_size(range.start)) as u64;
+        let room = SIZE.saturating_sub(header_size(range.start)) as u64; // for data
         if range.end - u64::from(fin) > range.start + room {
             range.end = range.start + room; // the rest, and the FIN, come in a later frame
             fin = false;
+        }
+        if range.is_empty() {
+            return false; // there is no room for a byte
         }
         let end = range.end - u64::from(fin); // the FIN's position has no byte
         if range.start >= sent {
@@ -128,7 +131,7 @@ impl Sender<'_> {
 
     fn on_acknowledged(&mut self, packet: SentPacket) {
         if packet.range.start > self.stream.numbers().first_unacknowledged {
-            self.allow_hole(); // the range has to be remembered
+            self.allow_hole(); // if the range can't be remembered, it is lost
         }
         let reply = self.stream.acknowledge(packet.range.clone()).expect("it was sent");
         if reply.sent_again && self.make_room() {
@@ -149,14 +152,14 @@ impl Sender<'_> {
         assert!(self.stream.lose(range), "it was sent");
     }
 
-    /// Makes room for one more range. Without it other bytes would count as lost, and be sent twice.
+    /// Makes room for one more hole in what is in flight. Without it other bytes would count as lost, and be sent twice.
     fn allow_hole(&mut self) {
         if self.losses >= self.stream.most_runs() {
             self.make_room();
         }
     }
 
-    /// Makes room for more ranges, if there may be.
+    /// Makes room for more ranges, and returns whether there may be.
     fn make_room(&mut self) -> bool {
         let most = self.stream.most_runs();
         if most < MOST_RUNS {

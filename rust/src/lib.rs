@@ -16,7 +16,7 @@
 //! assert_eq!((&text, ring.len()), (b"hello", 3));
 //! ```
 //!
-//! A receiver puts segments in order, each of which is a position and some bytes:
+//! A `FiniteReceiver` puts the segments of a stream in order, each of which is a position and some bytes:
 //!
 //! ```
 //! use net_base::finite::FiniteReceiver;
@@ -68,22 +68,24 @@
 //!   also takes the stream's first position.
 //! - `over` and `over_at` take storage of any type, such as an array by value or a type of your own:
 //!   `ReceiverOver::<_, 8>::over([0; 256])`. `Receiver` is short for a [`ReceiverOver`](receiver::ReceiverOver) whose
-//!   storage is lent or owned. Likewise each type has one whose name ends in `Over`, which has its calls.
+//!   storage is lent or owned, and the page of that type has its calls. So it is with
+//!   [`RingOver`](storage::RingOver), [`PacketsOver`](storage::PacketsOver) and the others.
 //!
-//! `N` is how many ranges may wait. Write it with the type: `Receiver::<8>::new(&mut storage[..])`. A type that you write
+//! `N` is how many ranges may wait. Write it with the type, as in `Receiver::<8>::new(..)`. A type that you write
 //! without it, as in `let receiver: Receiver = ..`, has N = 4. A receiver whose `N` is 0 doesn't compile. `Assembler` and
 //! `Scoreboard` have no storage: their `new()` has room for 4 ranges, and `Assembler::<8>::empty()` for 8.
 //!
 //! # What is proved
 //!
 //! The source is written in Rattle, which is Rust with a contract for each function: what it returns, what it changes,
-//! and when it refuses. A prover has checked each body, and then a script took the contracts out. A "Source" link opens
-//! what is left, and its first line names the file that has the contracts. A *law* that a page names is a theorem about
-//! many calls. `docs/laws.md` of the repository has them all.
+//! and when it refuses. A prover, which isn't public, has checked each body, and then a script took the contracts out. A
+//! "Source" link opens what is left, and its first line names the file that has the contracts. A *law* that a page names
+//! is a theorem about many calls. `docs/laws.md` of the repository has them all.
 //!
-//! These parts are only tested: `Debug`, conversions from slices, arrays, vectors, boxes and numbers, std's traits such as
-//! `Deref`, `Hash`, `Sum`, `Read` and `Write`, std's clocks, the traits and devices of [`phy`], and all of a
-//! [`SplitRing`](storage::SplitRing) except the arithmetic of its indices.
+//! These parts are only tested: `Debug`, conversions from slices, arrays, vectors, boxes and numbers, arrays and boxes as
+//! storage, std's traits such as `Deref`, `Hash`, `Sum`, `Read` and `Write`, std's clocks, the traits and devices of
+//! [`phy`], and all of a [`SplitRing`](storage::SplitRing) except the arithmetic of its indices. The crate ran under
+//! emulators for ARM and RISC-V, but never on a board.
 //!
 //! # Panics
 //!

@@ -48,7 +48,7 @@ def measured():
     times, sizes, peers = (f"compare/results/{name}.md" for name in ("times", "sizes", "peers"))
     rows = {row[0]: value(row[1]) for row in cells(times)}
     yield "time of a call | {} | {} |", times, span([it for name, it in rows.items() if not name.startswith("group ")])
-    for text in ("slowest single call takes {} of", "the one of the {}, whose loop"):
+    for text in ("slowest single call takes {} of", "The {} is a checksum, beside"):
         yield text, times, [f"{max(rows.values()):.2f}"]
     # A round of this row has five calls.
     lent = next(row[2].split("/") for row in cells(times) if row[0] == "stream_lent size 1460")
@@ -93,7 +93,7 @@ def counted():
     model = "rust/examples/plain_model.rs"
     yield "every list of {} calls", model, [WORDS[int(first(r"pow\((\d)\)", model))]]
     ends, reads = first(r"CAPACITY: u64 = (\d+)", model), count(r"Call::Read\(\d", model)
-    yield ", out of {}, on a `Receiver`", model, [str(2 * (int(ends) + 1) + reads)]
+    yield "where each call is one of {}", model, [str(2 * (int(ends) + 1) + reads)]
     kinds = count(r"^    \w+: (?:\w+::)?play\w*,$", models, "rust/net-tcp/tests/model.rs")
     yield "Some {} tests of Rust", f"src and tests of Rust's packages, {models}", [
         tens(count(r"#\[test\]", *(f"{Path(folder).parent}/{it}/**/*.rs" for folder in PACKAGES.values()
