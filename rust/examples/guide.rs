@@ -128,14 +128,17 @@ fn fragments() {
 fn sizes() {
     use net_base::finite::{FiniteReceiver, SendBuffer, SendRanges, StreamRanges};
     use net_base::receiver::Receiver;
+    use net_base::storage::{Assembler, PacketBuffer, PacketMetadata, RingBuffer};
 
-    let receiver = (size_of::<Receiver<'_, 4>>(), size_of::<Receiver<'_, 32>>());
-    println!("Receiver {} (N = 4), {} (N = 32)", receiver.0, receiver.1);
-    let finite = (size_of::<FiniteReceiver<'_, 4>>(), size_of::<FiniteReceiver<'_, 32>>());
-    println!("FiniteReceiver {} (N = 4), {} (N = 32)", finite.0, finite.1);
-    println!("StreamRanges {}", size_of::<StreamRanges<'_>>());
-    println!("SendRanges {}", size_of::<SendRanges<'_>>());
-    println!("SendBuffer {}", size_of::<SendBuffer<'_>>());
+    let receivers = (size_of::<Receiver<'_, 4>>(), size_of::<FiniteReceiver<'_, 4>>());
+    let assembler = size_of::<Assembler<4>>();
+    println!("Receiver {}, FiniteReceiver {}, Assembler {assembler}", receivers.0, receivers.1);
+    let (ring, packets) = (size_of::<RingBuffer<'_, u8>>(), size_of::<PacketBuffer<'_, u16>>());
+    let slot = size_of::<PacketMetadata<u16>>();
+    println!("RingBuffer {ring}, PacketBuffer {packets}, PacketMetadata {slot} with a header of 2");
+    let (ranges, sending) = (size_of::<StreamRanges<'_>>(), size_of::<SendRanges<'_>>());
+    let buffer = size_of::<SendBuffer<'_>>();
+    println!("StreamRanges {ranges}, SendRanges {sending}, SendBuffer {buffer}");
 }
 
 fn faults() {
