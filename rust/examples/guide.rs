@@ -52,21 +52,24 @@ fn numbers() {
     use net_base::receiver::ReceiverOver;
     use net_base::sequence_number::{Numbering, SequenceNumber};
 
-    // It owns 4,096 bytes, and at most eight ranges may wait. `over_at` is const, for a static.
+    // It owns 4,096 bytes, and at most eight ranges may wait.
     type Stream = ReceiverOver<[u8; 4_096], 8>;
 
-    // Takes a segment whose first byte has the number `seq`. Returns what to acknowledge.
+    // Takes a segment whose first byte has the number `seq`. Returns what to acknowledge, and the window.
     fn on_segment(stream: &mut Stream, numbering: Numbering, seq: u32, data: &[u8]) -> (u32, u16) {
         let position = numbering.position(SequenceNumber::new(seq), stream.next());
         if let Err(refused) = stream.keep(position, data) {
-            println!("{refused}"); // nothing changes, and the peer sends it again
+            println!("{refused}"); // nothing changes: the acknowledgement tells the peer
         }
         let window = stream.window().min(65_535) as u16;
         (numbering.number(stream.next()).get(), window)
     }
 
-    let numbering = Numbering { first: SequenceNumber::new(7) }; // of the stream's first byte
-    let mut stream = Stream::over_at([0; 4_096], Numbering::first_position());
+    // In a static this is all zeros, so it takes no flash.
+    let mut stream = Stream::over([0; 4_096]);
+    // A connection begins, whose first byte has the number 7.
+    stream.reset_at(Numbering::first_position());
+    let numbering = Numbering { first: SequenceNumber::new(7) };
     println!("{:?}", on_segment(&mut stream, numbering, 10, b"def"));
     println!("{:?}", on_segment(&mut stream, numbering, 7, b"abc"));
 }
@@ -130,15 +133,15 @@ fn sizes() {
     use net_base::receiver::Receiver;
     use net_base::storage::{Assembler, PacketBuffer, PacketMetadata, RingBuffer};
 
-    let receivers = (size_of::<Receiver<'_, 4>>(), size_of::<FiniteReceiver<'_, 4>>());
-    let assembler = size_of::<Assembler<4>>();
-    println!("Receiver {}, FiniteReceiver {}, Assembler {assembler}", receivers.0, receivers.1);
-    let (ring, packets) = (size_of::<RingBuffer<'_, u8>>(), size_of::<PacketBuffer<'_, u16>>());
-    let slot = size_of::<PacketMetadata<u16>>();
-    println!("RingBuffer {ring}, PacketBuffer {packets}, PacketMetadata {slot} with a header of 2");
-    let (ranges, sending) = (size_of::<StreamRanges<'_>>(), size_of::<SendRanges<'_>>());
-    let buffer = size_of::<SendBuffer<'_>>();
-    println!("StreamRanges {ranges}, SendRanges {sending}, SendBuffer {buffer}");
+    println!("Receiver {}", size_of::<Receiver<'_, 4>>());
+    println!("FiniteReceiver {}", size_of::<FiniteReceiver<'_, 4>>());
+    println!("Assembler {}", size_of::<Assembler<4>>());
+    println!("RingBuffer {}", size_of::<RingBuffer<'_, u8>>());
+    println!("PacketBuffer {}", size_of::<PacketBuffer<'_, u16>>());
+    println!("PacketMetadata {}", size_of::<PacketMetadata<u16>>());
+    println!("StreamRanges {}", size_of::<StreamRanges<'_>>());
+    println!("SendRanges {}", size_of::<SendRanges<'_>>());
+    println!("SendBuffer {}", size_of::<SendBuffer<'_>>());
 }
 
 fn faults() {

@@ -7,7 +7,7 @@ use std::collections::{BTreeMap, VecDeque};
 use std::mem;
 use std::ops::Range;
 
-use net_base::finite::{FiniteError, SendRanges, StreamRanges};
+use net_base::finite::{FiniteError, SendRangesOver, StreamRangesOver};
 use net_base::rand::Rand;
 use net_base::storage::Run;
 
@@ -67,7 +67,7 @@ struct SentPacket {
 /// The side that sends.
 struct Sender<'a> {
     data: &'a [u8],
-    stream: SendRanges<'static>,
+    stream: SendRangesOver<Vec<Run>>,
     packets: BTreeMap<u64, SentPacket>, // by number
     next_number: u64,
     max_stream_data: u64, // the peer's
@@ -95,9 +95,12 @@ impl Sender<'_> {
             return false; // all is in flight or acknowledged, or a limit is reached
         };
         let mut fin = self.stream.has_fin(&range);
-        let room = SIZE.saturating_sub(header_size(range.start)) as u64; // for data
-        if range.end - u64::from(fin) > range.start + room {
-            range.end = range.start + room; // the rest, and the FIN, come in a later frame
+        let Some(room) = SIZE.checked_sub(header_size(range.start)) else {
+            return false; // there is no room for the frame's header
+        };
+        let full = range.start + room as u64;
+        if range.end - u64::from(fin) > full {
+            range.end = full; // the rest, and the FIN, come in a later frame
             fin = false;
         }
         if range.is_empty() {
@@ -131,7 +134,7 @@ impl Sender<'_> {
 
     fn on_acknowledged(&mut self, packet: SentPacket) {
         if packet.range.start > self.stream.numbers().first_unacknowledged {
-            self.allow_hole(); // if the range can't be remembered, it is lost
+            self.allow_hole(); // without room to remember the range, it is lost
         }
         let reply = self.stream.acknowledge(packet.range.clone()).expect("it was sent");
         if reply.sent_again && self.make_room() {
@@ -164,7 +167,7 @@ impl Sender<'_> {
         let most = self.stream.most_runs();
         if most < MOST_RUNS {
             let runs = vec![Run::EMPTY; (2 * most).clamp(8, MOST_RUNS)];
-            self.stream.grow_runs(runs.clone().into(), runs.into());
+            self.stream.grow_runs(runs.clone(), runs);
         }
         most < MOST_RUNS
     }
@@ -186,22 +189,27 @@ impl Sender<'_> {
 
 /// The side that receives.
 struct Receiver {
-    stream: StreamRanges<'static>,
+    stream: StreamRangesOver<Vec<Run>>,
     pieces: BTreeMap<u64, Vec<u8>>, // bytes that came, by position
     announced: u64,                 // the last MAX_STREAM_DATA
     highest: u64,                   // end of any frame so far
-    connection: Connection,
 }
 
-/// What the receiving sides of all streams share.
-struct Connection {
+/// The flow control that the receiving sides of all streams share.
+struct Credit {
     received: u64, // the sum of `highest` of all streams
     max_data: u64, // that was announced
 }
 
 impl Receiver {
     /// Takes a STREAM frame, or returns the error with which the connection closes.
-    fn receive(&mut self, offset: u64, data: &[u8], fin: bool) -> Result<(), &'static str> {
+    fn receive(
+        &mut self,
+        credit: &mut Credit,
+        offset: u64,
+        data: &[u8],
+        fin: bool,
+    ) -> Result<(), &'static str> {
         let end = offset + data.len() as u64; // below 2^63, as both are varints
         if end > self.announced {
             return Err("FLOW_CONTROL_ERROR");
@@ -209,9 +217,9 @@ impl Receiver {
         if self.stream.end().is_some_and(|known| end > known) || fin && end < self.highest {
             return Err("FINAL_SIZE_ERROR");
         }
-        self.connection.received += end.saturating_sub(self.highest);
+        credit.received += end.saturating_sub(self.highest);
         self.highest = self.highest.max(end);
-        if self.connection.received > self.connection.max_data {
+        if credit.received > credit.max_data {
             return Err("FLOW_CONTROL_ERROR");
         }
         loop {
@@ -223,7 +231,7 @@ impl Receiver {
                 Ok(None) => return Ok(()), // all that is new is stored
                 Err(FiniteError::TooManyHoles) if self.stream.most_runs() < MOST_RUNS => {
                     let runs = vec![Run::EMPTY; (2 * self.stream.most_runs()).clamp(8, MOST_RUNS)];
-                    self.stream.grow_runs(runs.into()); // and try again
+                    self.stream.grow_runs(runs); // and try again
                 }
                 Err(FiniteError::OtherEnd) => return Err("FINAL_SIZE_ERROR"),
                 Err(_) => return Err("INTERNAL_ERROR"), // more ranges than we let wait
@@ -248,12 +256,12 @@ impl Receiver {
     }
 
     /// Reads all that has no gap before it.
-    fn read(&mut self) -> Vec<u8> {
+    fn read(&mut self, credit: &mut Credit) -> Vec<u8> {
         let waiting = self.pieces.split_off(&self.stream.next());
         let read =
             mem::replace(&mut self.pieces, waiting).into_values().collect::<Vec<_>>().concat();
         self.stream.read(read.len());
-        self.connection.max_data += read.len() as u64;
+        credit.max_data += read.len() as u64;
         read
     }
 
@@ -270,15 +278,15 @@ fn main() {
     let file: Vec<u8> = (0..50_000).map(|_| random.rand_u32() as u8).collect();
     let mut path = Path { random, packets: VecDeque::new() };
     let mut receiver = Receiver {
-        stream: StreamRanges::new(vec![], BEGIN),
+        stream: StreamRangesOver::over_at(vec![], 0, BEGIN),
         pieces: BTreeMap::new(),
         announced: BEGIN as u64,
         highest: 0,
-        connection: Connection { received: 0, max_data: MAX_DATA },
     };
+    let mut credit = Credit { received: 0, max_data: MAX_DATA };
     let mut sender = Sender {
         data: &file,
-        stream: SendRanges::new(vec![], vec![]),
+        stream: SendRangesOver::over_at(vec![], vec![], 0),
         packets: BTreeMap::new(),
         next_number: 0,
         max_stream_data: BEGIN as u64,
@@ -295,15 +303,17 @@ fn main() {
         now = path.packets.front().map_or(now + TIMEOUT, |next| next.0);
         match path.packets.pop_front().map(|next| next.1) {
             Some(Packet::Stream { number, offset, data, fin }) => {
-                receiver.receive(offset, &data, fin).expect("the peer keeps the rules");
-                read.extend(receiver.read());
+                receiver
+                    .receive(&mut credit, offset, &data, fin)
+                    .expect("the peer keeps the rules");
+                read.extend(receiver.read(&mut credit));
                 // The peer fills the window, so it gets a larger one.
                 let stream = &mut receiver.stream;
                 if stream.capacity() < CAPACITY.min(read.len()) {
                     stream.grow(2 * stream.capacity());
                 }
                 let (packets, max_stream_data) = (vec![number], receiver.announce());
-                let max_data = receiver.connection.max_data;
+                let max_data = credit.max_data;
                 path.send(now, &Packet::Ack { packets, max_stream_data, max_data });
             }
             Some(Packet::Ack { packets, max_stream_data, max_data }) => {

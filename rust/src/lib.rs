@@ -57,8 +57,8 @@
 //! and `docs/TCP.md`, and a library for C, in `docs/C.md`.
 //!
 //! [`storage`] and [`time`] have the names, signatures and behaviour of
-//! [smoltcp](https://github.com/smoltcp-rs/smoltcp) 0.14.0, except where an item says otherwise. The same holds for
-//! [`rand`], and for parts of [`phy`].
+//! [smoltcp](https://github.com/smoltcp-rs/smoltcp) 0.14.0, as far as we compared, except where an item says otherwise.
+//! The same holds for [`rand`], and for parts of [`phy`].
 //!
 //! # Storage
 //!
@@ -73,7 +73,8 @@
 //!
 //! `N` is how many ranges may wait. Write it with the type, as in `Receiver::<8>::new(..)`. A type that you write
 //! without it, as in `let receiver: Receiver = ..`, has N = 4. A receiver whose `N` is 0 doesn't compile. `Assembler` and
-//! `Scoreboard` have no storage: their `new()` has room for 4 ranges, and `Assembler::<8>::empty()` for 8.
+//! `Scoreboard` have no storage: their `new()` has room for 4 ranges, and `Assembler::<8>::empty()` for 8. The ranges of
+//! `StreamRanges`, `SendRanges`, `SendBuffer` and `StreamReceiver` are in storage too, so these have no `N`.
 //!
 //! # What is proved
 //!
