@@ -15,8 +15,8 @@
  *
  * Each struct has the *head*, which is its numbers, and a pointer to each buffer with its length.
  * Only `.._init` is passed these, so that duty 5 of net_base.h is kept. Call it again to begin
- * anew: all old state is gone. Instead of that call you may set the struct to zeros, and then fill
- * in its pointers and lengths. Read fields as you like, but let only these calls write the head.
+ * anew: all old state is gone. Read fields as you like, but let only these calls write them. If you
+ * break duty 6 or 7 with a struct that has pointers, a call may touch any memory.
  *
  * In place of `NET_BASE_NONE` and `UINT64_MAX` these calls return 0. Where a packet is, they write
  * to `place`, and return false if there is none.

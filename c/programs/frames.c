@@ -37,8 +37,8 @@ _Static_assert(LONGEST + SHORTEST <= BYTE_RING_SIZE, "the ring has room for a fr
 
 /* Where both streams begin: not below 32768, so that also a number before it has a position. */
 static const uint64_t FIRST = 65536;
-/* `least` has to be more than the time until three frames after a lost one are acknowledged, which
- * at 115,200 baud is 55 ms, and by as much as the two tasks may be late. */
+/* `least` has to be more than four of the longest frames and an answer take, which at 115,200 baud
+ * is 57 ms, by as much as both tasks may be late. */
 static const struct net_base_timeout_bounds BOUNDS = {.least = 100000, .most = 200000};
 static uint8_t text[BYTES]; /* Both devices send it. */
 

@@ -65,19 +65,19 @@ struct SentPacket {
 }
 
 /// The side that sends.
-struct Sender<'a> {
+struct SendingHalf<'a> {
     data: &'a [u8],
     stream: SendRangesOver<Vec<Run>>,
     packets: BTreeMap<u64, SentPacket>, // by number
     next_number: u64,
     max_stream_data: u64, // the peer's
-    max_data: u64,        // the peer's
-    charged: u64,         // the new bytes that all streams have sent, which MAX_DATA limits
+    max_data: u64,        // the peer's, for all streams
+    charged: u64,         // to it: the new bytes that all streams have sent
     losses: usize,        // calls of `lose` since `next` offered nothing lost
     timer_began: u64,
 }
 
-impl Sender<'_> {
+impl SendingHalf<'_> {
     /// Sends what the peer's flow control and the window of packets allow.
     fn send(&mut self, path: &mut Path, now: u64) {
         while self.packets.len() < WINDOW && self.send_packet(path, now) {}
@@ -86,8 +86,8 @@ impl Sender<'_> {
     /// Sends a packet with a STREAM frame, unless there is nothing to send.
     fn send_packet(&mut self, path: &mut Path, now: u64) -> bool {
         let sent = self.stream.numbers().sent;
-        let limit = self.max_stream_data.min(sent + self.max_data - self.charged);
-        let next = self.stream.next(limit, SIZE);
+        let last = sent + self.max_data - self.charged; // where MAX_DATA is used up
+        let next = self.stream.next(self.max_stream_data.min(last), SIZE);
         if next.as_ref().is_none_or(|range| range.start >= sent) {
             self.losses = 0; // all that was lost is sent again
         }
@@ -134,7 +134,7 @@ impl Sender<'_> {
 
     fn on_acknowledged(&mut self, packet: SentPacket) {
         if packet.range.start > self.stream.numbers().first_unacknowledged {
-            self.allow_hole(); // without room to remember the range, it is lost
+            self.allow_gap(); // without room `acknowledge` loses the range, which opens a gap
         }
         let reply = self.stream.acknowledge(packet.range.clone()).expect("it was sent");
         if reply.sent_again && self.make_room() {
@@ -150,13 +150,13 @@ impl Sender<'_> {
     }
 
     fn lose(&mut self, range: Range<u64>) {
-        self.allow_hole();
+        self.allow_gap();
         self.losses += 1;
         assert!(self.stream.lose(range), "it was sent");
     }
 
-    /// Makes room for one more hole in what is in flight. Without it other bytes would count as lost, and be sent twice.
-    fn allow_hole(&mut self) {
+    /// Makes room for one more gap in what is in flight. Without it other bytes would count as lost, and be sent twice.
+    fn allow_gap(&mut self) {
         if self.losses >= self.stream.most_runs() {
             self.make_room();
         }
@@ -188,7 +188,7 @@ impl Sender<'_> {
 }
 
 /// The side that receives.
-struct Receiver {
+struct ReceivingHalf {
     stream: StreamRangesOver<Vec<Run>>,
     pieces: BTreeMap<u64, Vec<u8>>, // bytes that came, by position
     announced: u64,                 // the last MAX_STREAM_DATA
@@ -198,10 +198,11 @@ struct Receiver {
 /// The flow control that the receiving sides of all streams share.
 struct Credit {
     received: u64, // the sum of `highest` of all streams
-    max_data: u64, // that was announced
+    read: u64,     // the bytes that were read of all streams
+    max_data: u64, // the last that was announced
 }
 
-impl Receiver {
+impl ReceivingHalf {
     /// Takes a STREAM frame, or returns the error with which the connection closes.
     fn receive(
         &mut self,
@@ -261,15 +262,16 @@ impl Receiver {
         let read =
             mem::replace(&mut self.pieces, waiting).into_values().collect::<Vec<_>>().concat();
         self.stream.read(read.len());
-        credit.max_data += read.len() as u64;
+        credit.read += read.len() as u64;
         read
     }
 
-    /// Returns the MAX_STREAM_DATA to announce now. It never falls.
-    fn announce(&mut self) -> u64 {
+    /// Returns the MAX_STREAM_DATA and the MAX_DATA to announce now. They never fall.
+    fn announce(&mut self, credit: &mut Credit) -> (u64, u64) {
         let end = self.stream.window_end().expect("the capacity is small");
         self.announced = end.min((1 << 62) - 1);
-        self.announced
+        credit.max_data = credit.read + MAX_DATA;
+        (self.announced, credit.max_data)
     }
 }
 
@@ -277,14 +279,14 @@ fn main() {
     let mut random = Rand::new(2);
     let file: Vec<u8> = (0..50_000).map(|_| random.rand_u32() as u8).collect();
     let mut path = Path { random, packets: VecDeque::new() };
-    let mut receiver = Receiver {
+    let mut receiver = ReceivingHalf {
         stream: StreamRangesOver::over_at(vec![], 0, BEGIN),
         pieces: BTreeMap::new(),
         announced: BEGIN as u64,
         highest: 0,
     };
-    let mut credit = Credit { received: 0, max_data: MAX_DATA };
-    let mut sender = Sender {
+    let mut credit = Credit { received: 0, read: 0, max_data: MAX_DATA };
+    let mut sender = SendingHalf {
         data: &file,
         stream: SendRangesOver::over_at(vec![], vec![], 0),
         packets: BTreeMap::new(),
@@ -312,8 +314,8 @@ fn main() {
                 if stream.capacity() < CAPACITY.min(read.len()) {
                     stream.grow(2 * stream.capacity());
                 }
-                let (packets, max_stream_data) = (vec![number], receiver.announce());
-                let max_data = credit.max_data;
+                let packets = vec![number];
+                let (max_stream_data, max_data) = receiver.announce(&mut credit);
                 path.send(now, &Packet::Ack { packets, max_stream_data, max_data });
             }
             Some(Packet::Ack { packets, max_stream_data, max_data }) => {

@@ -90,8 +90,8 @@
 //!
 //! # Panics
 //!
-//! A call panics only if you break a precondition, which its page names, and then in every build. Conversions of std's
-//! clocks panic if the moment doesn't fit. [`keep`](receiver::ReceiverOver::keep) and most other calls that take data
+//! A call panics only if you break a precondition, which its page names, and then in every build. For conversions of
+//! std's clocks that is that the moment fits. [`keep`](receiver::ReceiverOver::keep) and most other calls that take data
 //! from a packet have no precondition. `docs/GUIDE.md` of the repository lists those calls that have one and take a
 //! number, such as [`segment`](receiver::ReceiverOver::segment).
 //!

@@ -47,9 +47,8 @@ def tens(number):
 def measured():
     times, sizes, peers = (f"compare/results/{name}.md" for name in ("times", "sizes", "peers"))
     rows = {row[0]: value(row[1]) for row in cells(times)}
-    yield "time of a call | {} | {} |", times, span([it for name, it in rows.items() if not name.startswith("group ")])
-    for text in ("slowest single call takes {} of", "The {} is beside our own rewrite"):
-        yield text, times, [f"{max(rows.values()):.2f}"]
+    yield "beside our rewrite of it) | {} | {} |", times, span([it for name, it in rows.items() if not name.startswith("group ")])
+    yield "slowest single call takes {} of", times, [f"{max(rows.values()):.2f}"]
     # A round of this row has five calls.
     lent = next(row[2].split("/") for row in cells(times) if row[0] == "stream_lent size 1460")
     here, there = (f"{5 * float(count):,.0f}" for count in lent)
@@ -64,7 +63,9 @@ def measured():
     for form, count in [("kept, and read in place", in_place), ("copied out", copied), ("are read in place", two),
                         ("a byte goes through a `SplitRing`", byte)]:
         yield form + " | Cortex-M4 | {} |", sizes, [count]
-    yield "bytes of code | {} | {} |", sizes, span([*ratios, *(ratio for row in ours for ratio in row)])
+    processors = WORDS[len({row[0] for row in cells(sizes) if len(row) == 6})]
+    yield "bytes of code, on {} processors | {} | {} |", sizes, [
+        processors, *span([*ratios, *(ratio for row in ours for ratio in row)])]
     quinn = cells("compare/results/quinn.md")
     tests = next(row[2] for row in quinn if row[0] == "pass")
     yield "passes {} of its {} tests", "compare/results/quinn.md", re.findall(r"\d+", tests)
@@ -122,7 +123,7 @@ def counted():
     yield "{} bytes of code, {} for a connection, and {} for a queued segment", lwip, [
         f"{int(it):,}" for it in re.search(r"(\d+) bytes of code, (\d+) for a connection, (\d+) for", (ROOT / lwip).read_text()).groups()]
     bytes_of = lambda it: int(first(rf"^\| `net_{it}` \| \d+ \| (\d+) \|", "docs/C.md"))
-    yield "Both ends take {} bytes, and the limit of answers {} bytes", "docs/C.md", [
+    yield "row's RAM is {} for both ends and {} for a limit", "docs/C.md", [
         str(bytes_of("bound_receiving_end") + bytes_of("bound_sending_end")), str(bytes_of("base_answer_limit"))]
     yield "which have {} lines", "c/programs", [str(count("\n", "c/programs/tcp.c", "c/programs/headers.h"))]
     yield "declares {}.", rattle, [WORDS[count(r'^\s*(?:unsafe )?extern(?: "\w+")? \{', rattle)]]
