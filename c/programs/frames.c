@@ -12,11 +12,13 @@
  * A task owns a device, and the interrupts of its UART touch the two rings alone. To FreeRTOS,
  * which we haven't tried, this is
  * - `wakes = true`: vTaskNotifyGiveFromISR, and portYIELD_FROM_ISR at the end of the interrupt; in
- *   another task xTaskNotifyGive;
+ *   another task xTaskNotifyGive, after it has used a stream buffer between both;
  * - a task that sleeps: ulTaskNotifyTake, for the ticks, rounded up, until the moment of
  *   net_bound_sending_end_expires_at, or for ever if that returns false;
- * - `transmits`: the bit that enables the interrupt. If both write its register, write it between
- *   taskENTER_CRITICAL and taskEXIT_CRITICAL;
+ * - reading and writing: loops that move bytes from and to stream buffers, as many as
+ *   xStreamBufferSpacesAvailable and net_bound_sending_end_room allow, until nothing moves;
+ * - `transmits`: the bit that enables the interrupt. If the task and the interrupt write the same
+ *   register, write it between taskENTER_CRITICAL and taskEXIT_CRITICAL;
  * - `now`: 64 bits. If a tick is a millisecond, add 1000 times the ticks since the last turn,
  *   `(uint32_t)(xTaskGetTickCount() - last)`, and set `.tick` of the bounds to 1000.
  */

@@ -65,7 +65,7 @@ fn numbers() {
         (numbering.number(stream.next()).get(), window)
     }
 
-    // In a static this is all zeros, so it takes no flash. `over_at` would.
+    // A static made by `over` is all zeros, so it takes no flash. One made by `over_at` is not.
     let mut stream = Stream::over([0; 4_096]);
     // A connection begins, whose first byte has the number 7.
     stream.reset_at(Numbering::first_position());

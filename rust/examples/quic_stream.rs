@@ -61,7 +61,7 @@ impl Path {
 /// A packet that isn't acknowledged yet.
 struct SentPacket {
     range: Range<u64>, // of the stream, in its frame
-    is_probed: bool,   // a newer packet has the same bytes
+    is_probed: bool,   // its bytes were offered again for a probe
 }
 
 /// The side that sends.
@@ -73,7 +73,7 @@ struct SendingHalf<'a> {
     max_stream_data: u64, // the peer's
     max_data: u64,        // the peer's, for all streams
     charged: u64,         // to it: the new bytes that all streams have sent
-    losses: usize,        // calls of `lose` since `next` offered nothing lost
+    losses: usize,        // how often `lose` was called since `next` last offered nothing lost
     timer_began: u64,
 }
 

@@ -79,7 +79,7 @@
 //! # What is proved
 //!
 //! The source is written in Rattle, which is Rust with a contract for each function: what it returns, what it changes,
-//! and when it refuses. A prover, which isn't public, has checked each body, and then a script took the contracts out. A
+//! and when it refuses. A prover, which isn't public, and whose `usize` has 64 bits, has checked each body, and then a script took the contracts out. A
 //! "Source" link opens what is left, and its first line names the file that has the contracts. A *law* that a page names
 //! is a theorem about many calls. `docs/laws.md` of the repository has them all.
 //!
@@ -90,10 +90,10 @@
 //!
 //! # Panics
 //!
-//! A call panics only if you break a precondition, which its page names, and then in every build. For conversions of
-//! std's clocks that is that the moment fits. [`keep`](receiver::ReceiverOver::keep) and most other calls that take data
-//! from a packet have no precondition. `docs/GUIDE.md` of the repository lists those calls that have one and take a
-//! number, such as [`segment`](receiver::ReceiverOver::segment).
+//! A call panics only if you break a precondition, which its page names, and then in every build. A conversion of std's
+//! clocks panics if the moment doesn't fit. [`keep`](receiver::ReceiverOver::keep) and most other calls that take data
+//! from a packet have no precondition. `docs/GUIDE.md` and `docs/DIFFERENCES.md` of the repository list those calls that
+//! have one and take a number, such as [`segment`](receiver::ReceiverOver::segment).
 //!
 //! # Guarantees
 //!

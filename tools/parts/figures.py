@@ -47,7 +47,7 @@ def tens(number):
 def measured():
     times, sizes, peers = (f"compare/results/{name}.md" for name in ("times", "sizes", "peers"))
     rows = {row[0]: value(row[1]) for row in cells(times)}
-    yield "beside our rewrite of it) | {} | {} |", times, span([it for name, it in rows.items() if not name.startswith("group ")])
+    yield "beside our copy of smoltcp's loop) | {} | {} |", times, span([it for name, it in rows.items() if not name.startswith("group ")])
     yield "slowest single call takes {} of", times, [f"{max(rows.values()):.2f}"]
     # A round of this row has five calls.
     lent = next(row[2].split("/") for row in cells(times) if row[0] == "stream_lent size 1460")
