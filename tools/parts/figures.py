@@ -47,7 +47,7 @@ def tens(number):
 def measured():
     times, sizes, peers = (f"compare/results/{name}.md" for name in ("times", "sizes", "peers"))
     rows = {row[0]: value(row[1]) for row in cells(times)}
-    yield "beside our copy of smoltcp's loop) | {} | {} |", times, span([it for name, it in rows.items() if not name.startswith("group ")])
+    yield "beside smoltcp's loop written again) | {} | {} |", times, span([it for name, it in rows.items() if not name.startswith("group ")])
     # A round of this row has five calls.
     lent = next(row[2].split("/") for row in cells(times) if row[0] == "stream_lent size 1460")
     here, there = (f"{5 * float(count):,.0f}" for count in lent)
@@ -62,6 +62,14 @@ def measured():
     for form, count in [("kept, and read in place", in_place), ("copied out", copied), ("are read in place", two),
                         ("a byte goes through a `SplitRing`", byte)]:
         yield form + " | Cortex-M4 | {} |", sizes, [count]
+    rounds = [next(row for row in cells(sizes) if row[0] == name)[1].split("; ")
+              for name in ("net-base's `Receiver`, `keep`", "smoltcp", "net-base, joined")]
+    yield "its code has {} bytes, smoltcp's ring and assembler have {}, and ours {}", sizes, [it[0] for it in rounds]
+    yield "16 bytes take {} instructions, {} and {}", sizes, [it[1] for it in rounds]
+    small = dict(re.findall(r"(\w+): (\d+)(?: bytes|$)", (ROOT / sizes).read_text(), re.M))
+    for form in ("Receiver 136 # and {}, with", "FiniteReceiver 144 # and {}", "Assembler 80 # and {}",
+                 "RingBuffer 40 # and {}", "PacketBuffer 80 # and {}", "PacketMetadata 16 # and {}, with"):
+        yield form, sizes, [small[form.split()[0]]]
     processors = WORDS[len({row[0] for row in cells(sizes) if len(row) == 6})]
     yield "bytes of code, on {} processors | {} | {} |", sizes, [
         processors, *span([*ratios, *(ratio for row in ours for ratio in row)])]
